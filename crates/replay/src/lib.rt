@@ -1,0 +1,1 @@
+// Functions on bytes that serve every machine.

@@ -1,0 +1,3 @@
+-- The laws of the definitions in `specs/`, for callers to cite.
+pub mod Masks
+pub mod Part
