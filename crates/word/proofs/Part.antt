@@ -62,6 +62,15 @@ unfolding part
 part-of-take l at k n h =
     sym (drop-take k n l) ∙ ap (drop k) (sym (take-take (k + n) at l h)) ∙ drop-take k n (take at l)
 
+-- the front and the rest of a part
+pub take-part : (l : List ℕ) (at k m : ℕ) → take k (part l at (k + m)) ≡ part l at k
+unfolding part
+take-part l at k m = take-take k (k + m) (drop at l) (le-add-right k m)
+
+pub drop-part : (l : List ℕ) (at k m : ℕ) → drop k (part l at (k + m)) ≡ part l (at + k) m
+unfolding part
+drop-part l at k m = drop-take k m (drop at l) ∙ ap (take m) (drop-drop k at l)
+
 -- at a place before it
 pub part-put-before : (l : List ℕ) (at : ℕ) (bs : List ℕ) (k n : ℕ) → k + n ≤ at → at ≤ length l → part (put l at bs) k n ≡ part l k n
 part-put-before l at bs k n h b =
@@ -111,13 +120,13 @@ set-put l at v h = rw (add-one, set-split l at v)
 
 -- ---- bytes
 
-bytes-take : (n : ℕ) (l : List ℕ) → Bytes l → Bytes (take n l)
+pub bytes-take : (n : ℕ) (l : List ℕ) → Bytes l → Bytes (take n l)
 bytes-take zero l b i = lit< tt
 bytes-take (suc n) [] b i = lit< tt
 bytes-take (suc n) (x ∷ xs) b zero = b zero
 bytes-take (suc n) (x ∷ xs) b (suc i) = bytes-take n xs (λ k. b (suc k)) i
 
-bytes-drop : (n : ℕ) (l : List ℕ) → Bytes l → Bytes (drop n l)
+pub bytes-drop : (n : ℕ) (l : List ℕ) → Bytes l → Bytes (drop n l)
 bytes-drop n l b i = rw (getD-drop n l i 0) (b (n + i))
 
 pub bytes-append : (a c : List ℕ) → Bytes a → Bytes c → Bytes (a ++ c)

@@ -1,3 +1,6 @@
 -- What the contracts of `word` cite.
 pub mod Masks
 pub mod Part
+pub mod LittleEndian
+pub mod TwosComplement
+pub mod Layouts

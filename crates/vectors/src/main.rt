@@ -1,0 +1,8 @@
+// Runs outside values through the library and prints what it found. The bytes beside each value were worked out by hand from the
+// definitions of little endian and two's complement; `ok` says that writing gives them, that nothing beside them changed, and that
+// reading gives the value back.
+mod words;
+
+fn main() {
+    words::run();
+}

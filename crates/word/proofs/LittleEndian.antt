@@ -1,0 +1,64 @@
+-- Laws of little-endian numbers, once over the count of bytes: the length, the bound, and both round trips.
+use mathlib.Core.Path.{_≡_, refl, sym, ap, _∙_}
+use mathlib.Core.List.{List, [], _∷_}
+use Prim.Native.Nat.{ℕ, zero, suc, _+_, _*_, _/_, _%_, _^_, _<_, _≤_}
+use native.Mathlib.Nat.{pow-suc, mod-lt}
+use native.Mathlib.Omega.{arith}
+use lib.Dec.{lit<}
+use lib.ListN.{length, getD}
+use lib.Seq.{drop-cons}
+use Rattle.word.specs.Part.{Bytes, part}
+use Rattle.word.specs.LittleEndian.{toBytes, ofBytes, numberAt}
+use Rattle.word.proofs.Part.{length-part, bytes-part}
+
+pub length-toBytes : (k v : ℕ) → length (toBytes k v) ≡ k
+unfolding toBytes
+length-toBytes zero v = refl
+length-toBytes (suc k) v = ap suc (length-toBytes k (v / 256))
+
+pub bytes-toBytes : (k v : ℕ) → Bytes (toBytes k v)
+unfolding toBytes
+bytes-toBytes zero v i = lit< tt
+bytes-toBytes (suc k) v zero = mod-lt v (lit< tt)
+bytes-toBytes (suc k) v (suc i) = bytes-toBytes k (v / 256) i
+
+pub ofBytes-lt : (bs : List ℕ) → Bytes bs → ofBytes bs < 256 ^ length bs
+unfolding ofBytes
+ofBytes-lt [] b = lit< tt
+ofBytes-lt (x ∷ xs) b =
+    let low : x < 256 = b zero in
+    let high : ofBytes xs < 256 ^ length xs = ofBytes-lt xs (λ i. b (suc i)) in
+    rw pow-suc (omega arith)
+
+-- a number that k bytes hold is read back from its k bytes
+pub ofBytes-toBytes : (k v : ℕ) → v < 256 ^ k → ofBytes (toBytes k v) ≡ v
+unfolding toBytes ofBytes
+ofBytes-toBytes zero v h = omega arith
+ofBytes-toBytes (suc k) v h =
+    let g : v < 256 ^ k * 256 = rw pow-suc at h in
+    let high : v / 256 < 256 ^ k = omega arith in
+    ap (λ (r : ℕ). v % 256 + 256 * r) (ofBytes-toBytes k (v / 256) high) ∙ omega arith
+
+-- bytes are written back from the number that they stand for
+pub toBytes-ofBytes : (bs : List ℕ) → Bytes bs → toBytes (length bs) (ofBytes bs) ≡ bs
+unfolding toBytes ofBytes
+toBytes-ofBytes [] b = refl
+toBytes-ofBytes (x ∷ xs) b =
+    let low : x < 256 = b zero in
+    let first : (x + 256 * ofBytes xs) % 256 ≡ x = omega arith in
+    let rest : (x + 256 * ofBytes xs) / 256 ≡ ofBytes xs = omega arith in
+    rw (first, rest, toBytes-ofBytes xs (λ i. b (suc i)))
+
+-- ---- a number at a place
+
+pub numberAt-lt : (s : List ℕ) (at k : ℕ) → Bytes s → at + k ≤ length s → numberAt s at k < 256 ^ k
+numberAt-lt s at k b h = rw (length-part s at k h) at (ofBytes-lt (part s at k) (bytes-part s at k b))
+
+pub numberAt-zero : (s : List ℕ) (at : ℕ) {k : ℕ} → k ≡ 0 → numberAt s at k ≡ 0
+unfolding ofBytes part
+numberAt-zero s at e = rw e
+
+-- the lowest byte, and the number in the bytes above it
+pub numberAt-suc : (s : List ℕ) (at k : ℕ) → at < length s → numberAt s at (suc k) ≡ getD s at 0 + 256 * numberAt s (suc at) k
+unfolding ofBytes part
+numberAt-suc s at k h = rw (drop-cons s at 0 h)
