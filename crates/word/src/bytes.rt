@@ -22,8 +22,8 @@ pub fn read_number(s: &[u8], at: usize, width: usize) -> u32
     let mut v: u32 = 0;
     let mut i = width;
     while 0 < i {
+        v = v * 256 + wide(s[at + (i - 1)]);
         i -= 1;
-        v = v * 256 + wide(s[at + i]);
     }
     v
 }

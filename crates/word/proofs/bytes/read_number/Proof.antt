@@ -49,11 +49,11 @@ small c =
 loop-holds : tie.Need-loop-holds Inv-loop μ-loop
 loop-holds c = (omega arith, sym (numberAt-zero (now (c .before .args .s)) (c .before .args .at + c .before .args .width) (omega arith)))
 
-sub-i : tie.Need-sub-i Inv-loop μ-loop
-sub-i c = omega arith
-
 mul-v : tie.Need-mul-v Inv-loop μ-loop
 mul-v c = omega (arith, small c)
+
+sub-wide : tie.Need-sub-wide Inv-loop μ-loop
+sub-wide c = omega arith
 
 add-wide : tie.Need-add-wide Inv-loop μ-loop
 add-wide c = omega arith
@@ -69,6 +69,9 @@ add-v c =
     let at-loop = c .before .before .before in
     let k = at-loop .before .before .args .at + (at-loop .loop .i - 1) in
     omega (arith, small (c .before .before), c .wide .ensures, c .before .shared-slice-known2 .given k .fits)
+
+sub-i : tie.Need-sub-i Inv-loop μ-loop
+sub-i c = omega arith
 
 loop-less : tie.Need-loop-less Inv-loop μ-loop
 loop-less c = omega arith
@@ -88,4 +91,4 @@ returns c =
 pub read-number-spec : {M : Type 1} → statement M
 read-number-spec =
     tie.close
-    (tie.spec Inv-loop μ-loop loop-holds sub-i mul-v add-wide shared-slice-read-wide wide-requires add-v loop-less loop-again returns)
+    (tie.spec Inv-loop μ-loop loop-holds mul-v sub-wide add-wide shared-slice-read-wide wide-requires add-v sub-i loop-less loop-again returns)
