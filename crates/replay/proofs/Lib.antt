@@ -5,3 +5,9 @@ pub mod Changed
 pub mod Run
 pub mod Replay
 pub mod Rest
+pub mod Mend
+pub mod Loops
+pub mod Built
+pub mod Mending
+pub mod Claim
+pub mod Theorem
