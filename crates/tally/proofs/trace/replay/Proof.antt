@@ -1,0 +1,115 @@
+-- `tally::trace::replay` meets its contract. The invariant: replaying on from here gives what replaying from the loop's start gives, and
+-- the image is as long as it was. The measure is what is left of the snapshots.
+use mathlib.Core.Path.{_≡_, refl, sym, ap, _∙_}
+use mathlib.Core.List.{List, [], _∷_}
+use Prim.Native.Nat.{ℕ, _+_, _-_, _*_, _/_, _≤_, _<_}
+use borrow.Author.Needs.{needs}
+use native.Mathlib.Omega.{arith}
+use lib.Dec.{lit<}
+use lib.ListN.{length, set, length-set}
+use Rattle.replay.specs.Image.{Shape, Valid}
+use Rattle.replay.specs.Replay.{replayOn}
+use Rattle.replay.proofs.Image.{spacing-within}
+use Rattle.replay.proofs.Loops.{replay-start, replayOn-end}
+use Rattle.replay.proofs.Theorem.{replay-replayed}
+use Rattle.tally.specs.Tally.{tally, digit, shape}
+use Rattle.tally.proofs.Laws.{laws, set-withSnapshot}
+use Rattle.tally.proofs.Turns.{replay-turn}
+use Rattle.tally.proofs.trace.replay.Statement.{statement}
+use Rattle.tally.proofs.trace.replay.Tie as tie
+use Rattle.tally.proofs.trace.replay.Reads as reads
+use Rattle.tally.proofs.trace.replay.Lts as lts
+use Rattle.tally.proofs.digit.advance.Reads as advance-reads
+
+abbrev Inv-loop : tie.InvT-loop
+Inv-loop image₀ header count spacing table last state₀ j₀ image state j =
+    (j ≤ last)
+    × (replayOn tally digit (shape header count spacing) (last - j) j state image ≡ replayOn tally digit (shape header count spacing) (last - 0) 0 0 image₀)
+    × (length image ≡ header + count + last + 1)
+
+abbrev μ-loop : tie.MeasureT-loop
+μ-loop image₀ header count spacing table last state₀ j₀ image state j = last - j
+
+-- the shape of the image, and that a whole stretch of events is left in a turn
+abbrev shape-at : tie.At-loop Inv-loop μ-loop → Shape
+shape-at c = shape (c .before .before .args .header) (c .before .before .args .count) (c .before .before .args .spacing)
+
+spacing-left : (c : tie.In-loop Inv-loop μ-loop) → c .before .loop .j * shape-at (c .before) .spacing + shape-at (c .before) .spacing ≤ shape-at (c .before) .count
+spacing-left c = spacing-within (shape-at (c .before)) (c .loop-test .taken)
+
+add-table : tie.Need-add-table Inv-loop μ-loop
+add-table c = omega arith
+
+div-last : tie.Need-div-last Inv-loop μ-loop
+div-last c = omega arith
+
+slice-write-image : tie.Need-slice-write-image Inv-loop μ-loop
+slice-write-image c = omega arith
+
+loop-holds : tie.Need-loop-holds Inv-loop μ-loop
+loop-holds c = (search needs, refl, simp length-set (omega arith))
+
+mul-advance : tie.Need-mul-advance Inv-loop μ-loop
+mul-advance c = omega (arith, spacing-left (c .before))
+
+add-advance : tie.Need-add-advance Inv-loop μ-loop
+add-advance c = omega (arith, spacing-left (c .before))
+
+advance-requires : tie.Need-advance-requires Inv-loop μ-loop
+advance-requires c κs = omega (arith, spacing-left (c .before))
+
+add-j : tie.Need-add-j Inv-loop μ-loop
+add-j c = omega arith
+
+add-image : tie.Need-add-image Inv-loop μ-loop
+add-image c = omega arith
+
+slice-write-image-2 : tie.Need-slice-write-image-2 Inv-loop μ-loop
+slice-write-image-2 c = omega arith
+
+loop-less : tie.Need-loop-less Inv-loop μ-loop
+loop-less c = omega arith
+
+loop-again : tie.Need-loop-again Inv-loop μ-loop
+loop-again c =
+    let in-loop = c .before .before in
+    let at-loop = in-loop .before in
+    let args = at-loop .before .before .args in
+    let turn = replay-turn (shape-at at-loop) (at-loop .loop .image) (at-loop .loop .j) (args .header + args .count + (at-loop .loop .j + 1)) (at-loop .loop .state) (c .advance .result) (in-loop .loop-test .taken) refl (slice-write-image-2 c) (c .advance .ensures) in
+    (omega arith, sym turn ∙ at-loop .loop .inv .1, simp length-set (at-loop .loop .inv .2))
+
+same-length : tie.Need-same-length Inv-loop μ-loop
+same-length c = omega arith
+
+returns : tie.Need-returns Inv-loop μ-loop
+returns c =
+    let at-loop = c .before in
+    let at-start = at-loop .before .before in
+    let image = at-start .args .image .now in
+    let g = shape-at at-loop in
+    sym (replayOn-end tally digit g (at-loop .loop .j) (at-loop .loop .state) (at-loop .loop .image) (c .loop-test .left))
+    ∙ at-loop .loop .inv .1
+    ∙ ap (replayOn tally digit g (g .count / g .spacing - 0) 0 0) (set-withSnapshot g image 0 (g .header + g .count) (omega arith) (slice-write-image (at-loop .before)) 0)
+    ∙ sym (replay-start tally digit g 0 image)
+    ∙ replay-replayed tally digit laws g 0 (lit< tt) image (at-start .pre)
+
+pub replay-spec : {M : Type 1} → statement M
+replay-spec =
+    tie.close
+    (tie.spec
+    Inv-loop
+    μ-loop
+    add-table
+    div-last
+    slice-write-image
+    loop-holds
+    mul-advance
+    add-advance
+    advance-requires
+    add-j
+    add-image
+    slice-write-image-2
+    loop-less
+    loop-again
+    same-length
+    returns)
