@@ -1,29 +1,28 @@
 -- The tally keeps the laws of a machine and its codec: a remainder by 10 is a digit, and one byte is read as it was written. One event
 -- more is one digit added, a snapshot is one byte, and writing one is a store.
-use mathlib.Core.Path.{_≡_, refl, sym, ap, _∙_}
+use mathlib.Core.Path.{_≡_, refl, ap, _∙_}
 use mathlib.Core.Bool.{Bool, true, false, _&&_}
 use mathlib.Core.List.{List, [], _∷_}
-use Prim.Native.Nat.{ℕ, _+_, _*_, _/_, _%_, _<_, _≤_}
+use Prim.Native.Nat.{ℕ, _+_, _*_, _<_}
 use native.Mathlib.Omega.{arith}
 use lib.Dec.{leb, eqb}
 use lib.ListN.{length, getD, set}
-use Rattle.word.specs.Part.{part, put}
 use Rattle.word.proofs.Part.{set-put}
 use Rattle.replay.specs.Machine.{Laws}
 use Rattle.replay.specs.Image.{Shape, event, snapshot, withSnapshot}
 use Rattle.replay.specs.Replay.{run}
 use Rattle.replay.specs.Mend.{sameBytes, settled}
 use Rattle.replay.proofs.Lists.{getD-part, part-one}
-use Rattle.replay.proofs.Run.{run-suc, run-moved}
+use Rattle.replay.proofs.Run.{run-suc}
 use Rattle.tally.specs.Tally.{added, tally, digit, stretch}
 
 pub laws : Laws tally digit
 laws =
-    record
-      { step-good = λ s e good legal. omega arith
-      ; length-encode = λ s good. refl
-      ; decode-encode = λ s good. refl
-      }
+    record {
+      step-good = λ s e good legal. omega arith;
+      length-encode = λ s good. refl;
+      decode-encode = λ s good. refl;
+    }
 
 -- ---- events
 

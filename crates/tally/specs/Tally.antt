@@ -1,5 +1,5 @@
 -- The tally's machine and codec. Its state is a byte, good below 10; an event is a byte, legal below 10, which is added.
-use mathlib.Core.List.{List, [], _∷_}
+use mathlib.Core.List.{[], _∷_}
 use Prim.Native.Nat.{ℕ, _+_, _%_, _<_}
 use lib.ListN.{getD}
 use Rattle.replay.specs.Machine.{Machine, Codec}
@@ -11,13 +11,13 @@ added s b = (s + b) % 10
 
 abbrev pub tally : Machine
 tally =
-    record
-      { State = ℕ
-      ; step = λ s e. added s (getD e 0 0)
-      ; width = 1
-      ; Good = λ s. s < 10
-      ; Legal = λ e. getD e 0 0 < 10
-      }
+    record {
+      State = ℕ;
+      step = λ s e. added s (getD e 0 0);
+      width = 1;
+      Good = λ s. s < 10;
+      Legal = λ e. getD e 0 0 < 10;
+    }
 
 -- a digit as one byte
 abbrev pub digit : Codec tally

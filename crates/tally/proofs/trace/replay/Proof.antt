@@ -1,13 +1,12 @@
 -- `tally::trace::replay` meets its contract. The invariant: replaying on from here gives what replaying from the loop's start gives, and
 -- the image is as long as it was. The measure is what is left of the snapshots.
 use mathlib.Core.Path.{_≡_, refl, sym, ap, _∙_}
-use mathlib.Core.List.{List, [], _∷_}
-use Prim.Native.Nat.{ℕ, _+_, _-_, _*_, _/_, _≤_, _<_}
+use Prim.Native.Nat.{_+_, _-_, _*_, _/_, _≤_}
 use borrow.Author.Needs.{needs}
 use native.Mathlib.Omega.{arith}
 use lib.Dec.{lit<}
-use lib.ListN.{length, set, length-set}
-use Rattle.replay.specs.Image.{Shape, Valid}
+use lib.ListN.{length, length-set}
+use Rattle.replay.specs.Image.{Shape}
 use Rattle.replay.specs.Replay.{replayOn}
 use Rattle.replay.proofs.Image.{spacing-within}
 use Rattle.replay.proofs.Loops.{replay-start, replayOn-end}
@@ -17,9 +16,6 @@ use Rattle.tally.proofs.Laws.{laws, set-withSnapshot}
 use Rattle.tally.proofs.Turns.{replay-turn}
 use Rattle.tally.proofs.trace.replay.Statement.{statement}
 use Rattle.tally.proofs.trace.replay.Tie as tie
-use Rattle.tally.proofs.trace.replay.Reads as reads
-use Rattle.tally.proofs.trace.replay.Lts as lts
-use Rattle.tally.proofs.digit.advance.Reads as advance-reads
 
 abbrev Inv-loop : tie.InvT-loop
 Inv-loop image₀ header count spacing table last state₀ j₀ image state j =
@@ -34,7 +30,8 @@ abbrev μ-loop : tie.MeasureT-loop
 abbrev shape-at : tie.At-loop Inv-loop μ-loop → Shape
 shape-at c = shape (c .before .before .args .header) (c .before .before .args .count) (c .before .before .args .spacing)
 
-spacing-left : (c : tie.In-loop Inv-loop μ-loop) → c .before .loop .j * shape-at (c .before) .spacing + shape-at (c .before) .spacing ≤ shape-at (c .before) .count
+spacing-left : (c : tie.In-loop Inv-loop μ-loop)
+    → c .before .loop .j * shape-at (c .before) .spacing + shape-at (c .before) .spacing ≤ shape-at (c .before) .count
 spacing-left c = spacing-within (shape-at (c .before)) (c .loop-test .taken)
 
 add-table : tie.Need-add-table Inv-loop μ-loop
