@@ -59,7 +59,8 @@ module _ (g : Shape) (image : List ℕ) (f : ℕ) (patch : List ℕ) where
     first-in-table = let inside = first-within g f (v .spaced) (omega arith) in omega arith
 
     mend-begins : mend tally digit g f (length patch) patch image
-        ≡ mendOn tally digit g (f + length patch) (g .count / g .spacing - first) first (getD image (g .header + g .count + first) 0) (put image (g .header + f) patch)
+        ≡ mendOn tally digit g (f + length patch) (g .count / g .spacing - first) first (getD image (g .header + g .count + first) 0)
+        (put image (g .header + f) patch)
     unfolding changed
     mend-begins =
         let place : g .header + f * 1 ≡ g .header + f = omega arith in
@@ -68,7 +69,9 @@ module _ (g : Shape) (image : List ℕ) (f : ℕ) (patch : List ℕ) where
 
     -- what mending from the start gives
     pub answers : (out : Outcome)
-        → out ≡ mendOn tally digit g (f + length patch) (g .count / g .spacing - first) first (getD image (g .header + g .count + first) 0) (put image (g .header + f) patch)
+        → out
+        ≡ mendOn tally digit g (f + length patch) (g .count / g .spacing - first) first (getD image (g .header + g .count + first) 0)
+        (put image (g .header + f) patch)
         → Answer out
     answers out e =
         let answer : out ≡ mend tally digit g f (length patch) patch image = e ∙ sym mend-begins in

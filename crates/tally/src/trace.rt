@@ -38,8 +38,11 @@ pub fn mend(
 ) -> usize
     requires { ⌜ Valid tally digit (shape header count spacing) (now image) ⌝ }
     requires { ⌜ Fitting tally (shape header count spacing) first (length (now patch)) (now patch) ⌝ }
-    ensures answer { λ r. ⌜ outcome (now (image .exit)) r ≡ mend tally digit (shape header count spacing) first (length (now (patch .entry))) (now (patch .entry)) (now (image .entry)) ⌝ }
-    ensures claim { λ r. ⌜ (True tally digit (shape header count spacing) 0 (now (image .entry)) → Mended tally digit (shape header count spacing) 0 (now (image .entry)) first (length (now (patch .entry))) (now (patch .entry)) (outcome (now (image .exit)) r)) ⌝ }
+    ensures answer { λ r. ⌜ outcome (now (image .exit)) r
+        ≡ mend tally digit (shape header count spacing) first (length (now (patch .entry))) (now (patch .entry)) (now (image .entry)) ⌝ }
+    ensures claim { λ r. ⌜ (True tally digit (shape header count spacing) 0 (now (image .entry))
+        → Mended tally digit (shape header count spacing) 0 (now (image .entry)) first (length (now (patch .entry))) (now (patch .entry))
+        (outcome (now (image .exit)) r)) ⌝ }
 {
     let table = header + count;
     let last = count / spacing;
@@ -50,11 +53,12 @@ pub fn mend(
     while j < last {
         state = advance(image, state, header + j * spacing, spacing);
         j += 1;
-        let old = image[table + j];
+        let at = table + j;
+        let old = image[at];
         if settled(end, j * spacing, old, state) {
             return j;
         }
-        image[table + j] = state;
+        image[at] = state;
     }
     j + 1
 }

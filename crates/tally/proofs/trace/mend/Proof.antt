@@ -1,7 +1,7 @@
 -- `tally::trace::mend` meets its contract. The invariant: mending on from here gives what mending from the loop's start gives, and the
 -- image is as long as it was. The claim is the theorem of `replay` at that answer. The measure is what is left of the snapshots.
 use mathlib.Core.Path.{_≡_, refl, sym, ap, _∙_}
-use Prim.Native.Nat.{_+_, _-_, _*_, _/_, _≤_}
+use Prim.Native.Nat.{ℕ, _+_, _-_, _*_, _/_, _≤_, _<_}
 use native.Mathlib.Omega.{arith}
 use lib.ListN.{length, length-set}
 use Rattle.replay.specs.Image.{Shape}
@@ -16,7 +16,8 @@ use Rattle.tally.proofs.trace.mend.Tie as tie
 abbrev Inv-loop : tie.InvT-loop
 Inv-loop image₀ header count spacing first patch table last end j₀ state₀ image j state =
     (j ≤ last)
-    × (mendOn tally digit (shape header count spacing) end (last - j) j state image ≡ mendOn tally digit (shape header count spacing) end (last - j₀) j₀ state₀ image₀)
+    × (mendOn tally digit (shape header count spacing) end (last - j) j state image
+    ≡ mendOn tally digit (shape header count spacing) end (last - j₀) j₀ state₀ image₀)
     × (length image ≡ header + count + last + 1)
 
 abbrev μ-loop : tie.MeasureT-loop
@@ -26,13 +27,20 @@ abbrev μ-loop : tie.MeasureT-loop
 
 first-fits : (c : tie.Start Inv-loop μ-loop) → c .args .first / c .args .spacing ≤ c .args .count / c .args .spacing
 first-fits c =
-    first-in-table (shape (c .args .header) (c .args .count) (c .args .spacing)) (c .args .image .now) (c .args .first) (c .args .patch .now) (c .pre .0) (c .pre .1)
+    first-in-table (shape (c .args .header) (c .args .count) (c .args .spacing)) (c .args .image .now) (c .args .first) (c .args .patch .now)
+    (c .pre .0) (c .pre .1)
 
 abbrev start-of : tie.After-slice-known3 Inv-loop μ-loop → tie.Start Inv-loop μ-loop
 start-of c = c .before .before .before .before .before .before .before
 
 abbrev shape-of : tie.After-slice-known3 Inv-loop μ-loop → Shape
 shape-of c = shape (start-of c .args .header) (start-of c .args .count) (start-of c .args .spacing)
+
+abbrev last-of : tie.After-slice-known3 Inv-loop μ-loop → ℕ
+last-of c = shape-of c .count / shape-of c .spacing
+
+abbrev end-of : tie.After-slice-known3 Inv-loop μ-loop → ℕ
+end-of c = start-of c .args .first + length (start-of c .args .patch .now)
 
 spacing-left : (c : tie.In-loop Inv-loop μ-loop)
     → c .before .loop .j * shape-of (c .before .before) .spacing + shape-of (c .before .before) .spacing ≤ shape-of (c .before .before) .count
@@ -42,13 +50,19 @@ next-left : (c : tie.In-loop Inv-loop μ-loop)
     → (c .before .loop .j + 1) * shape-of (c .before .before) .spacing ≤ shape-of (c .before .before) .count
 next-left c = place-within (shape-of (c .before .before)) (start-of (c .before .before) .pre .0 .spaced) (omega arith)
 
+next-in-image : (c : tie.In-loop Inv-loop μ-loop)
+    → shape-of (c .before .before) .header + shape-of (c .before .before) .count + (c .before .loop .j + 1) < length (c .before .loop .image)
+next-in-image c = omega arith
+
 -- what mending on from the loop's head gives is the answer
 answered : (c : tie.At-loop Inv-loop μ-loop) (out : Outcome)
-    → mendOn tally digit (shape-of (c .before)) (start-of (c .before) .args .first + length (start-of (c .before) .args .patch .now)) (shape-of (c .before) .count / shape-of (c .before) .spacing - c .loop .j) (c .loop .j) (c .loop .state) (c .loop .image) ≡ out
-    → Answer (shape-of (c .before)) (start-of (c .before) .args .image .now) (start-of (c .before) .args .first) (start-of (c .before) .args .patch .now) out
+    → mendOn tally digit (shape-of (c .before)) (end-of (c .before)) (last-of (c .before) - c .loop .j) (c .loop .j) (c .loop .state)
+    (c .loop .image) ≡ out
+    → Answer (shape-of (c .before)) (start-of (c .before) .args .image .now) (start-of (c .before) .args .first)
+    (start-of (c .before) .args .patch .now) out
 answered c out e =
-    let at-start = start-of (c .before) in
-    answers (shape-of (c .before)) (at-start .args .image .now) (at-start .args .first) (at-start .args .patch .now) (at-start .pre .0) (at-start .pre .1) out
+    let entry = start-of (c .before) in
+    answers (shape-of (c .before)) (entry .args .image .now) (entry .args .first) (entry .args .patch .now) (entry .pre .0) (entry .pre .1) out
     (sym e ∙ c .loop .inv .1 ∙ ap (mendOn tally digit (shape-of (c .before)) _ _ _ _) (c .before .before .before .copy-over .ensures))
 
 add-table : tie.Need-add-table Inv-loop μ-loop
@@ -92,8 +106,8 @@ advance-requires c κs = omega (arith, spacing-left (c .before))
 add-j : tie.Need-add-j Inv-loop μ-loop
 add-j c = omega arith
 
-add-old : tie.Need-add-old Inv-loop μ-loop
-add-old c = omega arith
+add-at : tie.Need-add-at Inv-loop μ-loop
+add-at c = omega arith
 
 slice-read-old : tie.Need-slice-read-old Inv-loop μ-loop
 slice-read-old c = omega arith
@@ -112,11 +126,8 @@ returns c =
     let read = c .before .before in
     let in-loop = read .before .before .before in
     answered (in-loop .before) (outcome _ _)
-    (mend-stop (shape-of (in-loop .before .before)) _ _ _ _ _ (in-loop .loop-test .taken) refl (slice-read-old read) (read .before .advance .ensures) _
+    (mend-stop (shape-of (in-loop .before .before)) _ _ _ _ _ (in-loop .loop-test .taken) refl (next-in-image in-loop) (read .before .advance .ensures) _
     (sym (c .before .settled .ensures) ∙ c .if1 .taken))
-
-add-image : tie.Need-add-image Inv-loop μ-loop
-add-image c = omega arith
 
 slice-write-image : tie.Need-slice-write-image Inv-loop μ-loop
 slice-write-image c = omega arith
@@ -129,7 +140,7 @@ loop-again c =
     let read = c .before .before in
     let in-loop = read .before .before .before in
     let turn =
-    mend-turn (shape-of (in-loop .before .before)) _ _ _ _ _ (in-loop .loop-test .taken) refl (slice-read-old read) (read .before .advance .ensures) _
+    mend-turn (shape-of (in-loop .before .before)) _ _ _ _ _ (in-loop .loop-test .taken) refl (next-in-image in-loop) (read .before .advance .ensures) _
     (sym (c .before .settled .ensures) ∙ c .if1 .left) in
     (omega arith, sym turn ∙ in-loop .before .loop .inv .1, simp length-set (in-loop .before .loop .inv .2))
 
@@ -161,13 +172,12 @@ mend-spec =
     add-advance
     advance-requires
     add-j
-    add-old
+    add-at
     slice-read-old
     mul-settled
     settled-requires
     same-length
     returns
-    add-image
     slice-write-image
     loop-less
     loop-again
