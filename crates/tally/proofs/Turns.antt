@@ -1,6 +1,6 @@
 -- One turn of replay and of mending, as the code takes it: a stretch of events, one byte compared, one byte stored. Each is the loop law
 -- of `replay` at the tally.
-use mathlib.Core.Path.{_≡_, refl, sym, _∙_}
+use mathlib.Core.Path.{_≡_, refl, sym, ap, _∙_}
 use mathlib.Core.Bool.{true, false, _&&_}
 use mathlib.Core.List.{List}
 use Prim.Native.Nat.{ℕ, _+_, _-_, _*_, _/_, _≤_, _<_}
@@ -9,13 +9,13 @@ use lib.Dec.{leb, eqb, lit<}
 use lib.ListN.{length, getD, set}
 use Rattle.word.specs.Part.{put}
 use Rattle.replay.specs.Image.{Shape, changed, Valid, Fitting}
-use Rattle.replay.specs.Replay.{run, replayOn, True}
+use Rattle.replay.specs.Replay.{run, replayed, True, replayOn}
 use Rattle.replay.specs.Mend.{Outcome, outcome, mendOn, mend}
 use Rattle.replay.specs.Claim.{Mended}
 use Rattle.replay.proofs.Image.{first-within}
 use Rattle.replay.proofs.Run.{run-moved}
-use Rattle.replay.proofs.Loops.{replayOn-next, mendOn-stop, mendOn-next, mend-start}
-use Rattle.replay.proofs.Theorem.{mended-by}
+use Rattle.replay.proofs.Loops.{replay-start, replayOn-next, mendOn-stop, mendOn-next, mend-start}
+use Rattle.replay.proofs.Theorem.{replay-replayed, mended-by}
 use Rattle.tally.specs.Tally.{tally, digit, stretch}
 use Rattle.tally.proofs.Laws.{laws, snapshot-byte, set-withSnapshot, settled-byte}
 
@@ -41,6 +41,16 @@ module _ (g : Shape) (image : List ℕ) (j at s next : ℕ) (h : j < g .count / 
     mend-turn t =
         rw (set-withSnapshot g image (j + 1) at e b next)
         (mendOn-next tally digit g j s next image h on end (settled-byte g image (j + 1) at e b end next ∙ t))
+
+-- ---- the whole of a replay
+
+-- what replaying from the start gives, with snapshot 0 stored
+pub replay-answers : (g : Shape) (image : List ℕ) → Valid tally digit g image
+    → replayOn tally digit g (g .count / g .spacing - 0) 0 0 (set image (g .header + g .count) 0) ≡ replayed tally digit g 0 image
+replay-answers g image v =
+    ap (replayOn tally digit g (g .count / g .spacing - 0) 0 0) (set-withSnapshot g image 0 (g .header + g .count) (omega arith) (omega arith) 0)
+    ∙ sym (replay-start tally digit g 0 image)
+    ∙ replay-replayed tally digit laws g 0 (lit< tt) image v
 
 -- ---- the whole of a mending
 

@@ -1,26 +1,24 @@
 -- `tally::trace::replay` meets its contract. The invariant: replaying on from here gives what replaying from the loop's start gives, and
 -- the image is as long as it was. The measure is what is left of the snapshots.
-use mathlib.Core.Path.{_≡_, refl, sym, ap, _∙_}
-use Prim.Native.Nat.{_+_, _-_, _*_, _/_, _≤_}
+use mathlib.Core.Path.{_≡_, refl, sym, _∙_}
+use Prim.Native.Nat.{_+_, _-_, _*_, _≤_}
 use borrow.Author.Needs.{needs}
 use native.Mathlib.Omega.{arith}
-use lib.Dec.{lit<}
 use lib.ListN.{length, length-set}
 use Rattle.replay.specs.Image.{Shape}
 use Rattle.replay.specs.Replay.{replayOn}
 use Rattle.replay.proofs.Image.{spacing-within}
-use Rattle.replay.proofs.Loops.{replay-start, replayOn-end}
-use Rattle.replay.proofs.Theorem.{replay-replayed}
+use Rattle.replay.proofs.Loops.{replayOn-end}
 use Rattle.tally.specs.Tally.{tally, digit, shape}
-use Rattle.tally.proofs.Laws.{laws, set-withSnapshot}
-use Rattle.tally.proofs.Turns.{replay-turn}
+use Rattle.tally.proofs.Turns.{replay-turn, replay-answers}
 use Rattle.tally.proofs.trace.replay.Statement.{statement}
 use Rattle.tally.proofs.trace.replay.Tie as tie
 
 abbrev Inv-loop : tie.InvT-loop
 Inv-loop image₀ header count spacing table last state₀ j₀ image state j =
     (j ≤ last)
-    × (replayOn tally digit (shape header count spacing) (last - j) j state image ≡ replayOn tally digit (shape header count spacing) (last - 0) 0 0 image₀)
+    × (replayOn tally digit (shape header count spacing) (last - j) j state image
+    ≡ replayOn tally digit (shape header count spacing) (last - 0) 0 0 image₀)
     × (length image ≡ header + count + last + 1)
 
 abbrev μ-loop : tie.MeasureT-loop
@@ -71,8 +69,8 @@ loop-again : tie.Need-loop-again Inv-loop μ-loop
 loop-again c =
     let in-loop = c .before .before in
     let at-loop = in-loop .before in
-    let args = at-loop .before .before .args in
-    let turn = replay-turn (shape-at at-loop) (at-loop .loop .image) (at-loop .loop .j) (args .header + args .count + (at-loop .loop .j + 1)) (at-loop .loop .state) (c .advance .result) (in-loop .loop-test .taken) refl (slice-write-image-2 c) (c .advance .ensures) in
+    let turn =
+    replay-turn (shape-at at-loop) _ _ _ _ _ (in-loop .loop-test .taken) refl (slice-write-image-2 c) (c .advance .ensures) in
     (omega arith, sym turn ∙ at-loop .loop .inv .1, simp length-set (at-loop .loop .inv .2))
 
 same-length : tie.Need-same-length Inv-loop μ-loop
@@ -81,14 +79,10 @@ same-length c = omega arith
 returns : tie.Need-returns Inv-loop μ-loop
 returns c =
     let at-loop = c .before in
-    let at-start = at-loop .before .before in
-    let image = at-start .args .image .now in
-    let g = shape-at at-loop in
-    sym (replayOn-end tally digit g (at-loop .loop .j) (at-loop .loop .state) (at-loop .loop .image) (c .loop-test .left))
+    let entry = at-loop .before .before in
+    sym (replayOn-end tally digit (shape-at at-loop) _ _ _ (c .loop-test .left))
     ∙ at-loop .loop .inv .1
-    ∙ ap (replayOn tally digit g (g .count / g .spacing - 0) 0 0) (set-withSnapshot g image 0 (g .header + g .count) (omega arith) (slice-write-image (at-loop .before)) 0)
-    ∙ sym (replay-start tally digit g 0 image)
-    ∙ replay-replayed tally digit laws g 0 (lit< tt) image (at-start .pre)
+    ∙ replay-answers (shape-at at-loop) (entry .args .image .now) (entry .pre)
 
 pub replay-spec : {M : Type 1} → statement M
 replay-spec =
