@@ -1,0 +1,13 @@
+-- The laws of replay and mending, for any machine. `Theorem` states what a user of them asks for.
+pub mod Lists
+pub mod Image
+pub mod Changed
+pub mod Run
+pub mod Replay
+pub mod Rest
+pub mod Mend
+pub mod Loops
+pub mod Built
+pub mod Mending
+pub mod Claim
+pub mod Theorem

@@ -1,1 +1,2 @@
 // Functions on bytes that serve every machine.
+pub mod bytes;

@@ -1,0 +1,3 @@
+-- The laws of the tally.
+pub mod Laws
+pub mod Turns

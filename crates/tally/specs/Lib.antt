@@ -1,0 +1,2 @@
+-- The tally: a machine of one digit.
+pub mod Tally
