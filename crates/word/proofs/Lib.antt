@@ -4,3 +4,4 @@ pub mod Part
 pub mod LittleEndian
 pub mod TwosComplement
 pub mod Layouts
+pub mod Branches

@@ -1,0 +1,33 @@
+-- What code has of a struct's value: that each part is a value of its type, as the definitions' records say it.
+use borrow.Author.Needs.{needs}
+use denote.Struct.Declared.{fields}
+use denote.Struct.Struct.{AreAll}
+use denote.RattleType.{Valss}
+use Rattle.counter.specs.declared.state.Settings.{Settings}
+use Rattle.counter.specs.declared.state.Counter.{Counter}
+use Rattle.counter.specs.WellFormed.{SettingsTyped, Typed}
+use Rattle.counter.proofs.state.Settings as settings
+use Rattle.counter.proofs.state.Counter as counter
+
+pub settings-told : (s : Settings) (vss : Valss (fields settings.the-type)) → AreAll (fields settings.the-type) (settings.the-type .to s) vss → SettingsTyped s
+settings-told s vss g =
+    record {
+      pfn = record { sfits = g .0 .1 };
+      mode = record { sfits = g .1 .0 .1 };
+      hip = record { sfits = g .1 .1 .0 .1 };
+      lop = record { sfits = g .1 .1 .1 .0 .1 };
+      ovf = record { sfits = g .1 .1 .1 .1 .0 .1 };
+      unf = record { sfits = g .1 .1 .1 .1 .1 .0 .1 };
+      omb = g .1 .1 .1 .1 .1 .1 .0 .1;
+      hpo = g .1 .1 .1 .1 .1 .1 .1 .0 .1;
+      lpo = g .1 .1 .1 .1 .1 .1 .1 .1 .0 .1;
+    }
+
+pub counter-told : (c : Counter) (vss : Valss (fields counter.the-type)) → AreAll (fields counter.the-type) (counter.the-type .to c) vss → Typed c
+counter-told c vss g =
+    record {
+      staged = settings-told (c .staged) (g .0 .0) (g .0 .1 .1);
+      active = settings-told (c .active) (g .1 .0 .0) (g .1 .0 .1 .1);
+      acc = record { sfits = g .1 .1 .0 .1 };
+      waiting = search needs;
+    }

@@ -1,0 +1,144 @@
+-- Document 01, "Events, 12 bytes, little-endian", on a decoded event: which events are legal, and the step of each kind.
+use mathlib.Core.Bool.{Bool, true, false, cond, not, _&&_, _||_}
+use mathlib.Core.List.{[], _∷_}
+use Prim.Native.Nat.{ℕ, _%_}
+use lib.Dec.{eqb, leb}
+use lib.IntN.{ℤ, pos, negsuc}
+use lib.Signed.{leZ}
+use mir.Syntax.{w16, w32}
+use Rattle.word.specs.Masks.{merge}
+use Rattle.word.specs.TwosComplement.{signed, unsigned, eqZ}
+use Rattle.counter.specs.declared.state.Settings.{Settings}
+use Rattle.counter.specs.declared.state.Counter.{Counter}
+use Rattle.counter.specs.Parts.{AS, SP, FE, withStaged, withAcc, withOut, withFlags, withCauses, flag, on, off}
+use Rattle.counter.specs.Loading.{firstBroken, accepted, rejected, load, presetLoad}
+use Rattle.counter.specs.Interrupts.{outputMask, quiet, finish}
+use Rattle.counter.specs.Sample.{sample}
+
+-- ---- legal events: kind, sub and value
+
+abbrev pub from : ℕ → ℕ → ℕ → Bool
+from a b n = leb a n && leb n b
+
+abbrev pub between : ℤ → ℤ → ℤ → Bool
+between a b v = leZ a v && leZ v b
+
+abbrev pub isZero : ℤ → Bool
+isZero v = eqZ v (pos 0)
+
+-- 0 or 1
+abbrev pub isBit : ℤ → Bool
+isBit = between (pos 0) (pos 1)
+
+-- 0-65535
+abbrev pub isWord : ℤ → Bool
+isWord = between (pos 0) (pos 65535)
+
+-- -32768 to 32767
+abbrev pub isShort : ℤ → Bool
+isShort = between (negsuc 32767) (pos 32767)
+
+-- staged write: sub 1 HIP, 2 LOP, 3 OVF, 4 UNF (any), 5 HPO, 6 LPO
+unfoldable pub legalStaged : ℕ → ℤ → Bool
+legalStaged sub v = cond (from 1 4 sub) true (cond (from 5 6 sub) (isWord v) false)
+
+-- programming device: sub 1 PFN, 2 MOD, 3 OMB, 4 AS
+unfoldable pub legalDevice : ℕ → ℤ → Bool
+legalDevice sub v = cond (from 1 2 sub) (isShort v) (cond (eqb sub 3) (isWord v) (cond (eqb sub 4) (isBit v) false))
+
+-- flag write, sub the flag: 0, 2, 5-10 take 0 or 1; 1, 11-14, 16-18 take 0 only
+unfoldable pub legalFlag : ℕ → ℤ → Bool
+legalFlag sub v =
+    cond (eqb sub 0 || eqb sub 2 || from 5 10 sub) (isBit v)
+    (cond (eqb sub 1 || from 11 14 sub || from 16 18 sub) (isZero v) false)
+
+-- where not listed, sub and value must be 0
+unfoldable pub legal : ℕ → ℕ → ℤ → Bool
+legal kind sub v =
+    cond (eqb kind 1) (eqb sub 0 && between (pos 0) (pos 15) v)
+    (cond (eqb kind 2) (legalStaged sub v)
+    (cond (eqb kind 3) (legalDevice sub v)
+    (cond (eqb kind 4) (legalFlag sub v)
+    (cond (eqb kind 5) (eqb sub 0)
+    (cond (eqb kind 9) (eqb sub 0 && isWord v)
+    (cond (eqb kind 0 || from 6 8 kind) (eqb sub 0 && isZero v) false))))))
+
+-- ---- values, cut to their part's width, which a legal value fits
+
+abbrev pub levelsOf : ℤ → ℕ
+levelsOf v = unsigned w32 v % 16
+
+abbrev pub wordOf : ℤ → ℕ
+wordOf v = unsigned w32 v % 65536
+
+abbrev pub shortOf : ℤ → ℤ
+shortOf v = signed w16 (wordOf v)
+
+-- ---- the kinds
+
+-- 2: a staged write
+unfoldable pub staged : ℕ → ℤ → Settings → Settings
+staged sub v s =
+    cond (eqb sub 1) (record { pfn = s .pfn; mode = s .mode; hip = v; lop = s .lop; ovf = s .ovf; unf = s .unf; omb = s .omb; hpo = s .hpo; lpo = s .lpo })
+    (cond (eqb sub 2) (record { pfn = s .pfn; mode = s .mode; hip = s .hip; lop = v; ovf = s .ovf; unf = s .unf; omb = s .omb; hpo = s .hpo; lpo = s .lpo })
+    (cond (eqb sub 3) (record { pfn = s .pfn; mode = s .mode; hip = s .hip; lop = s .lop; ovf = v; unf = s .unf; omb = s .omb; hpo = s .hpo; lpo = s .lpo })
+    (cond (eqb sub 4) (record { pfn = s .pfn; mode = s .mode; hip = s .hip; lop = s .lop; ovf = s .ovf; unf = v; omb = s .omb; hpo = s .hpo; lpo = s .lpo })
+    (cond (eqb sub 5) (record { pfn = s .pfn; mode = s .mode; hip = s .hip; lop = s .lop; ovf = s .ovf; unf = s .unf; omb = s .omb; hpo = wordOf v; lpo = s .lpo })
+    (cond (eqb sub 6) (record { pfn = s .pfn; mode = s .mode; hip = s .hip; lop = s .lop; ovf = s .ovf; unf = s .unf; omb = s .omb; hpo = s .hpo; lpo = wordOf v }) s)))))
+
+unfoldable pub stagedWrite : ℕ → ℤ → Counter → Counter
+stagedWrite sub v c = withStaged (staged sub v (c .staged)) c
+
+-- 3: the programming device's settings, sub 1 to 3
+unfoldable pub device : ℕ → ℤ → Settings → Settings
+device sub v s =
+    cond (eqb sub 1) (record { pfn = shortOf v; mode = s .mode; hip = s .hip; lop = s .lop; ovf = s .ovf; unf = s .unf; omb = s .omb; hpo = s .hpo; lpo = s .lpo })
+    (cond (eqb sub 2) (record { pfn = s .pfn; mode = shortOf v; hip = s .hip; lop = s .lop; ovf = s .ovf; unf = s .unf; omb = s .omb; hpo = s .hpo; lpo = s .lpo })
+    (cond (eqb sub 3) (record { pfn = s .pfn; mode = s .mode; hip = s .hip; lop = s .lop; ovf = s .ovf; unf = s .unf; omb = wordOf v; hpo = s .hpo; lpo = s .lpo }) s))
+
+-- flag n at the value's level
+abbrev pub setTo : ℕ → ℤ → Counter → Counter
+setTo n v c = cond (isZero v) (off n c) (on n c)
+
+-- 3: sub 4 is AS
+unfoldable pub deviceWrite : ℕ → ℤ → Counter → Counter
+deviceWrite sub v c = cond (eqb sub 4) (setTo AS v c) (withStaged (device sub v (c .staged)) c)
+
+-- 4: SP going 0 to 1 loads; the write is done whether the load is accepted or not
+unfoldable pub flagWrite : ℕ → ℤ → Counter → Counter
+flagWrite sub v c = cond (eqb sub SP && not (isZero v) && not (flag c SP)) (load (on SP c)) (setTo sub v c)
+
+-- 8: LPI, HPI, UFI, OFI go to 0, running and waiting are emptied
+abbrev pub emptied : Counter → Counter
+emptied c = withCauses 0 (0 ∷ 0 ∷ []) 0 (withFlags (quiet (c .flags)) c)
+
+-- then, if AS, a load, and FE 1 if accepted
+unfoldable pub enterRun : Counter → Counter
+enterRun c =
+    cond (flag c AS)
+    (cond (eqb (firstBroken (c .staged)) 0) (on FE (accepted (emptied c))) (rejected (firstBroken (c .staged)) (emptied c)))
+    (emptied c)
+
+-- 9: outputs not in active OMB take the value's bits, the others stay
+unfoldable pub programWord : ℕ → ℕ → ℕ → ℕ
+programWord omb word out = merge 16 (outputMask omb) out (word % 4096)
+
+abbrev pub outputWrite : ℤ → Counter → Counter
+outputWrite v c = withOut (programWord (c .active .omb) (wordOf v) (c .out)) c
+
+-- ---- the step; an event that is not legal changes nothing
+
+unfoldable pub apply : ℕ → ℕ → ℤ → Counter → Counter
+apply kind sub v c =
+    cond (eqb kind 1) (sample (levelsOf v) c)
+    (cond (eqb kind 2) (stagedWrite sub v c)
+    (cond (eqb kind 3) (deviceWrite sub v c)
+    (cond (eqb kind 4) (flagWrite sub v c)
+    (cond (eqb kind 5) (withAcc v c)
+    (cond (eqb kind 6) (presetLoad c)
+    (cond (eqb kind 7) (finish c)
+    (cond (eqb kind 8) (enterRun c)
+    (cond (eqb kind 9) (outputWrite v c) c))))))))
+
+unfoldable pub step : ℕ → ℕ → ℤ → Counter → Counter
+step kind sub v c = cond (legal kind sub v) (apply kind sub v c) c

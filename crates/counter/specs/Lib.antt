@@ -1,0 +1,8 @@
+-- Document 01's counter, section by section, in the paper's order.
+pub mod Parts
+pub mod Shown
+pub mod Loading
+pub mod Events
+pub mod Sample
+pub mod Interrupts
+pub mod WellFormed

@@ -1,0 +1,74 @@
+-- Document 01, "Loading settings": the rules in their order, and what an accepted and a rejected load leave.
+use mathlib.Core.Bool.{Bool, cond, not, _&&_, _||_}
+use Prim.Native.Nat.{ℕ}
+use lib.Dec.{eqb, ltb}
+use lib.IntN.{ℤ, pos}
+use lib.Signed.{ltZ, leZ}
+use Rattle.counter.specs.declared.state.Settings.{Settings}
+use Rattle.counter.specs.declared.state.Counter.{Counter}
+use Rattle.counter.specs.Parts.{withActive, withEr, flag, on, off, ED, LOADED, modeOf, upOnly, mode}
+
+-- ---- the rules, each as its row states it
+
+-- 1: PFN is 3 to 255
+abbrev pub rule1 : ℤ → Bool
+rule1 pfn = leZ (pos 3) pfn && leZ pfn (pos 255)
+
+-- 2: MOD is 0 to 7
+abbrev pub rule2 : ℕ → Bool
+rule2 m = ltb m 8
+
+-- 3: modes 0, 1: HIP > 0; modes 2-7: HIP > LOP
+abbrev pub rule3 : ℕ → ℤ → ℤ → Bool
+rule3 m hip lop = upOnly m && ltZ (pos 0) hip || not (upOnly m) && ltZ lop hip
+
+-- 4: HIP <= OVF
+abbrev pub rule4 : ℤ → ℤ → Bool
+rule4 hip ovf = leZ hip ovf
+
+-- 5: modes 2-7: LOP >= UNF (house: the number)
+abbrev pub rule5 : ℕ → ℤ → ℤ → Bool
+rule5 m lop unf = upOnly m || leZ unf lop
+
+-- the first of rules 3 to 5 that is broken, 0 if none is
+unfoldable pub presetBroken : ℕ → ℤ → ℤ → ℤ → ℤ → ℕ
+presetBroken m hip lop ovf unf =
+    cond (rule3 m hip lop) (cond (rule4 hip ovf) (cond (rule5 m lop unf) 0 5) 4) 3
+
+-- the first of all rules that is broken, 0 if none is
+unfoldable pub firstBroken : Settings → ℕ
+firstBroken s =
+    cond (rule1 (s .pfn)) (cond (rule2 (modeOf (s .mode))) (presetBroken (modeOf (s .mode)) (s .hip) (s .lop) (s .ovf) (s .unf)) 2) 1
+
+-- ---- what a load leaves
+
+-- ED 0, ER 0
+abbrev pub withoutError : Counter → Counter
+withoutError c = off ED (withEr 0 c)
+
+-- accepted: active becomes staged, loaded 1
+abbrev pub accepted : Counter → Counter
+accepted c = withoutError (on LOADED (withActive (c .staged) c))
+
+-- rejected: ED 1, ER set, active and loaded stay
+abbrev pub rejected : ℕ → Counter → Counter
+rejected n c = on ED (withEr n c)
+
+unfoldable pub load : Counter → Counter
+load c = cond (eqb (firstBroken (c .staged)) 0) (accepted c) (rejected (firstBroken (c .staged)) c)
+
+-- ---- the preset load (HSL): staged HIP, LOP, HPO, LPO with active MOD, OVF, UNF
+
+abbrev pub hslBroken : Counter → ℕ
+hslBroken c = presetBroken (mode c) (c .staged .hip) (c .staged .lop) (c .active .ovf) (c .active .unf)
+
+-- active settings with the presets of the staged ones
+abbrev pub withPresets : Settings → Settings → Settings
+withPresets s a = record { pfn = a .pfn; mode = a .mode; hip = s .hip; lop = s .lop; ovf = a .ovf; unf = a .unf; omb = a .omb; hpo = s .hpo; lpo = s .lpo }
+
+-- no effect if nothing is loaded
+unfoldable pub presetLoad : Counter → Counter
+presetLoad c =
+    cond (flag c LOADED)
+    (cond (eqb (hslBroken c) 0) (withoutError (withActive (withPresets (c .staged) (c .active)) c)) (rejected (hslBroken c) c))
+    c

@@ -1,0 +1,95 @@
+-- Document 01, "One input sample": edges, reset and hold, the mode's table, and a count up or down.
+use mathlib.Core.Bool.{Bool, true, false, cond, not, _&&_, _||_}
+use Prim.Native.Nat.{ℕ, _%_}
+use lib.Dec.{eqb, ltb}
+use lib.IntN.{ℤ, pos, _+ℤ_, _-ℤ_}
+use lib.Signed.{leZ}
+use Rattle.word.specs.Masks.{bit, setBit, clearBit}
+use Rattle.word.specs.TwosComplement.{eqZ}
+use Rattle.counter.specs.declared.state.Counter.{Counter}
+use Rattle.counter.specs.declared.state.Counted.{Counted}
+use Rattle.counter.specs.declared.state.Count.{Count}
+use Rattle.counter.specs.declared.state.Count.the-variants.{None, Up, Down}
+use Rattle.counter.specs.Parts.{CE, DIR, UF, OF, MD, LOADED, lowPreset, highPreset, underflow, overflow, withAcc, withFlags, withLevels, flag, upOnly, mode}
+use Rattle.counter.specs.Interrupts.{raise}
+
+-- ---- edges compare stored with new levels
+
+abbrev pub rises : ℕ → ℕ → ℕ → Bool
+rises old new n = not (bit old n) && bit new n
+
+abbrev pub falls : ℕ → ℕ → ℕ → Bool
+falls old new n = bit old n && not (bit new n)
+
+-- ---- the mode
+
+-- modes 1, 3, 5, 7 have a reset (input 2) and a hold (input 3)
+unfoldable pub hasReset : ℕ → Bool
+hasReset m = ltb m 8 && eqb (m % 2) 1
+
+-- what the mode's row says; both in one sample (modes 4, 5): no count (house)
+unfoldable pub direction : ℕ → ℕ → ℕ → Count
+direction m old new =
+    cond (ltb m 2) (cond (rises old new 0) Up None)
+    (cond (ltb m 4) (cond (rises old new 0) (cond (bit new 1) Down Up) None)
+    (cond (ltb m 6) (cond (rises old new 0) (cond (rises old new 1) None Up) (cond (rises old new 1) Down None))
+    (cond (ltb m 8) (cond (bit new 1) None (cond (rises old new 0) Up (cond (falls old new 0) Down None))) None)))
+
+-- ---- one count
+
+abbrev pub counted : ℤ → ℕ → Counted
+counted acc cause = record { acc = acc; cause = cause }
+
+-- ACC >= OVF: ACC becomes UNF (0 in modes 0, 1), cause 4. Else ACC + 1; if that equals HIP, cause 2, and in modes 0, 1 ACC becomes 0.
+unfoldable pub up : Bool → ℤ → ℤ → ℤ → ℤ → Counted
+up single acc hip ovf unf =
+    cond (leZ ovf acc) (cond single (counted (pos 0) overflow) (counted unf overflow))
+    (cond (eqZ (acc +ℤ pos 1) hip) (cond single (counted (pos 0) highPreset) (counted (acc +ℤ pos 1) highPreset)) (counted (acc +ℤ pos 1) 0))
+
+-- ACC <= UNF: ACC becomes OVF, cause 3. Else ACC - 1; if that equals LOP, cause 1.
+unfoldable pub down : ℤ → ℤ → ℤ → ℤ → Counted
+down acc lop ovf unf =
+    cond (leZ acc unf) (counted ovf underflow) (cond (eqZ (acc -ℤ pos 1) lop) (counted (acc -ℤ pos 1) lowPreset) (counted (acc -ℤ pos 1) 0))
+
+-- up sets DIR; OF with cause 4, MD with cause 2 in modes 0, 1
+unfoldable pub upFlags : Bool → ℕ → ℕ → ℕ
+upFlags single cause flags =
+    cond (eqb cause overflow) (setBit (setBit flags DIR) OF)
+    (cond (eqb cause highPreset && single) (setBit (setBit flags DIR) MD) (setBit flags DIR))
+
+-- down clears DIR; UF with cause 3
+unfoldable pub downFlags : ℕ → ℕ → ℕ
+downFlags cause flags = cond (eqb cause underflow) (setBit (clearBit 32 flags DIR) UF) (clearBit 32 flags DIR)
+
+abbrev pub upOf : Counter → Counted
+upOf c = up (upOnly (mode c)) (c .acc) (c .active .hip) (c .active .ovf) (c .active .unf)
+
+abbrev pub downOf : Counter → Counted
+downOf c = down (c .acc) (c .active .lop) (c .active .ovf) (c .active .unf)
+
+unfoldable pub countUp : Counter → Counter
+countUp c =
+    raise (upOf c .cause) (withFlags (upFlags (upOnly (mode c)) (upOf c .cause) (c .flags)) (withAcc (upOf c .acc) c))
+
+unfoldable pub countDown : Counter → Counter
+countDown c =
+    raise (downOf c .cause) (withFlags (downFlags (downOf c .cause) (c .flags)) (withAcc (downOf c .acc) c))
+
+unfoldable pub count : Count → Counter → Counter
+count None c = c
+count Up c = countUp c
+count Down c = countDown c
+
+-- ---- the sample
+
+-- whether a sample may count: CE is 1, and no hold is on
+unfoldable pub counting : Counter → ℕ → Bool
+counting c new = flag c CE && not (hasReset (mode c) && bit new 3)
+
+-- New levels are always stored; with nothing loaded that is all. A reset: ACC 0, no count, whatever CE and hold are.
+unfoldable pub sample : ℕ → Counter → Counter
+sample new c =
+    cond (flag c LOADED)
+    (cond (hasReset (mode c) && rises (c .levels) new 2) (withAcc (pos 0) (withLevels new c))
+    (cond (counting c new) (count (direction (mode c) (c .levels) new) (withLevels new c)) (withLevels new c)))
+    (withLevels new c)

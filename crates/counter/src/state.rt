@@ -1,0 +1,41 @@
+// The counter's parts.
+
+// What a load copies from staged to active, in the snapshot's order.
+pub struct Settings {
+    pub pfn: i16,
+    pub mode: i16,
+    pub hip: i32,
+    pub lop: i32,
+    pub ovf: i32,
+    pub unf: i32,
+    pub omb: u16,
+    pub hpo: u16,
+    pub lpo: u16,
+}
+
+// The waiting causes stand at the front of `waiting`, `queued` of them, in order of arrival.
+pub struct Counter {
+    pub staged: Settings,
+    pub active: Settings,
+    pub acc: i32,
+    pub out: u16,
+    pub er: u16,
+    pub flags: u32,
+    pub levels: u8,
+    pub running: u8,
+    pub waiting: [u8; 2],
+    pub queued: u8,
+}
+
+// What an input sample asks for.
+pub enum Count {
+    None,
+    Up,
+    Down,
+}
+
+// ACC after a count, and the cause that the count raises, 0 for none.
+pub struct Counted {
+    pub acc: i32,
+    pub cause: u8,
+}
