@@ -1,2 +1,4 @@
+-- What code knows of a counter, and the laws of the definitions in `specs/`.
+pub mod Limits
 pub mod Modes
 pub mod Told

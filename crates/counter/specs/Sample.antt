@@ -27,13 +27,26 @@ falls old new n = bit old n && not (bit new n)
 unfoldable pub hasReset : ℕ → Bool
 hasReset m = ltb m 8 && eqb (m % 2) 1
 
--- what the mode's row says; both in one sample (modes 4, 5): no count (house)
+-- 0, 1: input 0 rises
+unfoldable pub aloneUp : ℕ → ℕ → Count
+aloneUp old new = cond (rises old new 0) Up None
+
+-- 2, 3: input 0 rises, up with 1 off, down with 1 on
+unfoldable pub byLevel : ℕ → ℕ → Count
+byLevel old new = cond (rises old new 0) (cond (bit new 1) Down Up) None
+
+-- 4, 5: input 0 rises, up; input 1 rises, down; both in one sample: no count (house)
+unfoldable pub byInput : ℕ → ℕ → Count
+byInput old new = cond (rises old new 0) (cond (rises old new 1) None Up) (cond (rises old new 1) Down None)
+
+-- 6, 7: with 1 off, input 0 rises, up; input 0 falls, down
+unfoldable pub byPhase : ℕ → ℕ → Count
+byPhase old new = cond (bit new 1) None (cond (rises old new 0) Up (cond (falls old new 0) Down None))
+
 unfoldable pub direction : ℕ → ℕ → ℕ → Count
 direction m old new =
-    cond (ltb m 2) (cond (rises old new 0) Up None)
-    (cond (ltb m 4) (cond (rises old new 0) (cond (bit new 1) Down Up) None)
-    (cond (ltb m 6) (cond (rises old new 0) (cond (rises old new 1) None Up) (cond (rises old new 1) Down None))
-    (cond (ltb m 8) (cond (bit new 1) None (cond (rises old new 0) Up (cond (falls old new 0) Down None))) None)))
+    cond (ltb m 2) (aloneUp old new)
+    (cond (ltb m 4) (byLevel old new) (cond (ltb m 6) (byInput old new) (cond (ltb m 8) (byPhase old new) None)))
 
 -- ---- one count
 

@@ -18,6 +18,10 @@ yes-branch A b x y z e p = subst (λ (t : Bool). z ≡ cond t x y) (sym e) p
 pub no-branch : (A : Type 0) (b : Bool) (x y z : A) → b ≡ false → z ≡ y → z ≡ cond b x y
 no-branch A b x y z e p = subst (λ (t : Bool). z ≡ cond t x y) (sym e) p
 
+-- what a call's answer is, and what a test of that answer said
+pub told : {A : Type 0} {r b v : A} → r ≡ b → r ≡ v → b ≡ v
+told e t = sym e ∙ t
+
 -- ---- equality of signed numbers
 
 pub eqZ-refl : (x : ℤ) → eqZ x x ≡ true
@@ -56,3 +60,6 @@ module _ {w : Width} {x y : ℤ} (f : SFits w x) (g : SFits w y) where
   ne-signed h = eqZ-false x y (λ e. h (ap (ofZ w) e))
 
 pub ruleset branches = (yes-branch, no-branch, lt-ltb, le-ltb, le-leb, lt-leb, eq-eqb, ne-eqb, lt-signed, le-signed, eq-signed, ne-signed)
+
+-- the same where the tests are of what calls answered
+pub ruleset calls = (told, branches)

@@ -1,0 +1,11 @@
+use borrow.Author.Needs.{needs}
+use Rattle.counter.specs.Sample.{hasReset}
+use Rattle.counter.proofs.inputs.has_reset.Statement.{statement}
+use Rattle.counter.proofs.inputs.has_reset.Tie as tie
+
+returns : tie.Need-returns
+unfolding hasReset
+returns c = cc
+
+pub has-reset-spec : {M : Type 1} → statement M
+has-reset-spec = tie.close (tie.spec returns)
