@@ -48,18 +48,28 @@ started cause flags =
 
 -- ---- the running cause and the waiting ones
 
+abbrev pub starting : ℕ → Counter → Counter
+starting cause c = withCauses cause (c .waiting) (c .queued) (withFlags (started cause (c .flags)) c)
+
+abbrev pub waiting : ℕ → Counter → Counter
+waiting cause c = withCauses (c .running) (set (c .waiting) (c .queued) cause) (c .queued + 1) c
+
 -- none running: it starts; fewer than two waiting: it waits; else UIL 1, and it is lost
 unfoldable pub post : ℕ → Counter → Counter
-post cause c =
-    cond (eqb (c .running) 0) (withCauses cause (c .waiting) (c .queued) (withFlags (started cause (c .flags)) c))
-    (cond (ltb (c .queued) 2) (withCauses (c .running) (set (c .waiting) (c .queued) cause) (c .queued + 1) c) (on UIL c))
+post cause c = cond (eqb (c .running) 0) (starting cause c) (cond (ltb (c .queued) 2) (waiting cause c) (on UIL c))
+
+abbrev pub resting : Counter → Counter
+resting c = withCauses 0 (c .waiting) (c .queued) c
+
+-- the first waiting cause starts, the second moves up
+abbrev pub advancing : Counter → Counter
+advancing c =
+    withCauses (getD (c .waiting) 0 0) (getD (c .waiting) 1 0 ∷ 0 ∷ []) (c .queued - 1)
+    (withFlags (started (getD (c .waiting) 0 0) (c .flags)) c)
 
 -- routine done: the first waiting cause starts, or none runs; no effect if none runs
 unfoldable pub finish : Counter → Counter
-finish c =
-    cond (eqb (c .running) 0) c
-    (cond (eqb (c .queued) 0) (withCauses 0 (c .waiting) 0 c)
-    (withCauses (getD (c .waiting) 0 0) (getD (c .waiting) 1 0 ∷ 0 ∷ []) (c .queued - 1) (withFlags (started (getD (c .waiting) 0 0) (c .flags)) c)))
+finish c = cond (eqb (c .running) 0) c (cond (eqb (c .queued) 0) (resting c) (advancing c))
 
 -- outputs go by the cause whether or not it becomes an interrupt; a cause that does not is dropped
 abbrev pub withOutputs : ℕ → Counter → Counter

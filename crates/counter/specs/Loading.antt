@@ -6,7 +6,7 @@ use lib.IntN.{ℤ, pos}
 use lib.Signed.{ltZ, leZ}
 use Rattle.counter.specs.declared.state.Settings.{Settings}
 use Rattle.counter.specs.declared.state.Counter.{Counter}
-use Rattle.counter.specs.Parts.{withActive, withEr, flag, on, off, ED, LOADED, modeOf, upOnly, mode}
+use Rattle.counter.specs.Parts.{withActive, withEr, flag, on, off, ED, LOADED, modeOf, upOnly}
 
 -- ---- the rules, each as its row states it
 
@@ -59,16 +59,19 @@ load c = cond (eqb (firstBroken (c .staged)) 0) (accepted c) (rejected (firstBro
 
 -- ---- the preset load (HSL): staged HIP, LOP, HPO, LPO with active MOD, OVF, UNF
 
-abbrev pub hslBroken : Counter → ℕ
-hslBroken c = presetBroken (mode c) (c .staged .hip) (c .staged .lop) (c .active .ovf) (c .active .unf)
+unfoldable pub hslBroken : Settings → Settings → ℕ
+hslBroken s a = presetBroken (modeOf (a .mode)) (s .hip) (s .lop) (a .ovf) (a .unf)
 
 -- active settings with the presets of the staged ones
 abbrev pub withPresets : Settings → Settings → Settings
 withPresets s a = record { pfn = a .pfn; mode = a .mode; hip = s .hip; lop = s .lop; ovf = a .ovf; unf = a .unf; omb = a .omb; hpo = s .hpo; lpo = s .lpo }
 
+abbrev pub presetAccepted : Counter → Counter
+presetAccepted c = withoutError (withActive (withPresets (c .staged) (c .active)) c)
+
 -- no effect if nothing is loaded
 unfoldable pub presetLoad : Counter → Counter
 presetLoad c =
     cond (flag c LOADED)
-    (cond (eqb (hslBroken c) 0) (withoutError (withActive (withPresets (c .staged) (c .active)) c)) (rejected (hslBroken c) c))
+    (cond (eqb (hslBroken (c .staged) (c .active)) 0) (presetAccepted c) (rejected (hslBroken (c .staged) (c .active)) c))
     c

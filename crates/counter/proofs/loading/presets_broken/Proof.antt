@@ -1,0 +1,28 @@
+-- `counter::loading::presets_broken` meets its contract: the rules are asked of the parts that the definition names.
+use mathlib.Core.Path.{ap, _∙_}
+use Rattle.word.proofs.TwosComplement.{signed-unsigned}
+use Rattle.counter.specs.Parts.{modeOf}
+use Rattle.counter.specs.Loading.{presetBroken, hslBroken}
+use Rattle.counter.proofs.Told.{settings-told}
+use borrow.Author.Needs.{needs}
+use Rattle.counter.proofs.loading.presets_broken.Statement.{statement}
+use Rattle.counter.proofs.loading.presets_broken.Tie as tie
+
+mode-of-requires : tie.Need-mode-of-requires
+mode-of-requires c κs = search needs
+
+preset-broken-requires : tie.Need-preset-broken-requires
+preset-broken-requires c κs = search needs
+
+returns : tie.Need-returns
+unfolding hslBroken
+returns c = 
+    let moded = c .before .before .before .before .before in
+    let args = moded .before .before .args in
+    let a = settings-told (args .a) _ (moded .before .struct-told .given) in
+    let s = settings-told (args .s) _ (c .before .before .before .before .struct-told2 .given) in
+    c .preset-broken .ensures
+    ∙ simp (moded .mode-of .ensures, signed-unsigned (a .mode), signed-unsigned (s .hip), signed-unsigned (s .lop), signed-unsigned (a .ovf), signed-unsigned (a .unf))
+
+pub presets-broken-spec : {M : Type 1} → statement M
+presets-broken-spec = tie.close (tie.spec mode-of-requires preset-broken-requires returns)
