@@ -1,13 +1,17 @@
 -- What code has of a struct's value: that each part is a value of its type, as the definitions' records say it.
 use borrow.Author.Needs.{needs}
+use mir.Syntax.{w32}
+use mir.Val.{SFits}
 use denote.Struct.Declared.{fields}
 use denote.Struct.Struct.{AreAll}
 use denote.RattleType.{Valss}
 use Rattle.counter.specs.declared.state.Settings.{Settings}
 use Rattle.counter.specs.declared.state.Counter.{Counter}
+use Rattle.counter.specs.declared.state.Counted.{Counted}
 use Rattle.counter.specs.WellFormed.{SettingsTyped, Typed}
 use Rattle.counter.proofs.state.Settings as settings
 use Rattle.counter.proofs.state.Counter as counter
+use Rattle.counter.proofs.state.Counted as counted
 
 pub settings-told : (s : Settings) (vss : Valss (fields settings.the-type)) → AreAll (fields settings.the-type) (settings.the-type .to s) vss → SettingsTyped s
 settings-told s vss g =
@@ -31,3 +35,6 @@ counter-told c vss g =
       acc = record { sfits = g .1 .1 .0 .1 };
       waiting = search needs;
     }
+
+pub counted-told : (r : Counted) (vss : Valss (fields counted.the-type)) → AreAll (fields counted.the-type) (counted.the-type .to r) vss → SFits w32 (r .acc)
+counted-told r vss g = record { sfits = g .0 .1 }

@@ -95,14 +95,22 @@ count Down c = countDown c
 
 -- ---- the sample
 
--- whether a sample may count: CE is 1, and no hold is on
-unfoldable pub counting : Counter → ℕ → Bool
-counting c new = flag c CE && not (hasReset (mode c) && bit new 3)
+-- input 2 rises in a mode that has a reset
+unfoldable pub resets : ℕ → ℕ → ℕ → Bool
+resets m old new = hasReset m && rises old new 2
 
--- New levels are always stored; with nothing loaded that is all. A reset: ACC 0, no count, whatever CE and hold are.
+-- ACC 0, no count, nothing raised
+abbrev pub reset : ℕ → Counter → Counter
+reset new c = withAcc (pos 0) (withLevels new c)
+
+-- whether a sample may count: CE is 1, and no hold (input 3) is on
+unfoldable pub counting : ℕ → ℕ → ℕ → Bool
+counting m flags new = bit flags CE && not (hasReset m && bit new 3)
+
+-- New levels are always stored; with nothing loaded that is all. A reset comes whatever CE and hold are.
 unfoldable pub sample : ℕ → Counter → Counter
 sample new c =
     cond (flag c LOADED)
-    (cond (hasReset (mode c) && rises (c .levels) new 2) (withAcc (pos 0) (withLevels new c))
-    (cond (counting c new) (count (direction (mode c) (c .levels) new) (withLevels new c)) (withLevels new c)))
+    (cond (resets (mode c) (c .levels) new) (reset new c)
+    (cond (counting (mode c) (c .flags) new) (count (direction (mode c) (c .levels) new) (withLevels new c)) (withLevels new c)))
     (withLevels new c)

@@ -6,4 +6,5 @@ pub mod inputs;
 pub mod loading;
 pub mod outputs;
 pub mod rules;
+pub mod sampling;
 pub mod state;
