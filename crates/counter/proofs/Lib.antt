@@ -1,4 +1,5 @@
 -- What code knows of a counter, and the laws of the definitions in `specs/`.
 pub mod Limits
 pub mod Modes
+pub mod Ranges
 pub mod Told

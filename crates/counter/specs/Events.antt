@@ -30,6 +30,10 @@ isZero v = eqZ v (pos 0)
 abbrev pub isBit : ℤ → Bool
 isBit = between (pos 0) (pos 1)
 
+-- 0-15
+abbrev pub isLevels : ℤ → Bool
+isLevels = between (pos 0) (pos 15)
+
 -- 0-65535
 abbrev pub isWord : ℤ → Bool
 isWord = between (pos 0) (pos 65535)
@@ -47,21 +51,25 @@ unfoldable pub legalDevice : ℕ → ℤ → Bool
 legalDevice sub v = cond (from 1 2 sub) (isShort v) (cond (eqb sub 3) (isWord v) (cond (eqb sub 4) (isBit v) false))
 
 -- flag write, sub the flag: 0, 2, 5-10 take 0 or 1; 1, 11-14, 16-18 take 0 only
-unfoldable pub legalFlag : ℕ → ℤ → Bool
-legalFlag sub v =
-    cond (eqb sub 0 || eqb sub 2 || from 5 10 sub) (isBit v)
-    (cond (eqb sub 1 || from 11 14 sub || from 16 18 sub) (isZero v) false)
+unfoldable pub takesBit : ℕ → Bool
+takesBit sub = eqb sub 0 || eqb sub 2 || from 5 10 sub
 
--- where not listed, sub and value must be 0
+unfoldable pub takesZero : ℕ → Bool
+takesZero sub = eqb sub 1 || from 11 14 sub || from 16 18 sub
+
+unfoldable pub legalFlag : ℕ → ℤ → Bool
+legalFlag sub v = takesBit sub && isBit v || takesZero sub && isZero v
+
+-- by kind; where nothing else is listed, sub and value must be 0
 unfoldable pub legal : ℕ → ℕ → ℤ → Bool
 legal kind sub v =
-    cond (eqb kind 1) (eqb sub 0 && between (pos 0) (pos 15) v)
+    cond (eqb kind 0) (eqb sub 0 && isZero v)
+    (cond (eqb kind 1) (eqb sub 0 && isLevels v)
     (cond (eqb kind 2) (legalStaged sub v)
     (cond (eqb kind 3) (legalDevice sub v)
     (cond (eqb kind 4) (legalFlag sub v)
     (cond (eqb kind 5) (eqb sub 0)
-    (cond (eqb kind 9) (eqb sub 0 && isWord v)
-    (cond (eqb kind 0 || from 6 8 kind) (eqb sub 0 && isZero v) false))))))
+    (cond (from 6 8 kind) (eqb sub 0 && isZero v) (cond (eqb kind 9) (eqb sub 0 && isWord v) false)))))))
 
 -- ---- values, cut to their part's width, which a legal value fits
 

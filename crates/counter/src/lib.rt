@@ -3,6 +3,7 @@
 pub mod causes;
 pub mod counting;
 pub mod inputs;
+pub mod legality;
 pub mod loading;
 pub mod outputs;
 pub mod rules;

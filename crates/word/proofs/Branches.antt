@@ -2,7 +2,8 @@
 -- closes a return of a function that tests plain numbers in the definition's order.
 use mathlib.Core.Path.{_≡_, refl, sym, ap, _∙_, subst}
 use mathlib.Core.Bool.{Bool, true, false, cond, false≢true}
-use borrow.Author.Tests.{lt-ltb, le-ltb, le-leb, lt-leb, eq-eqb, ne-eqb, eqb-true}
+use borrow.Author.Tests.{lt-ltb, le-ltb, le-leb, lt-leb, eq-eqb, ne-eqb, eqb-true, eqb-false}
+use lib.Dec.{eqb}
 use lib.IntN.{ℤ, pos, negsuc}
 use lib.Signed.{ltZ, leZ}
 use mir.Syntax.{Width}
@@ -52,6 +53,14 @@ module _ {w : Width} {x y : ℤ} (f : SFits w x) (g : SFits w y) where
 
   same-bits : ofZ w x ≡ ofZ w y → x ≡ y
   same-bits e = sym (toZ-ofZ f) ∙ ap (toZ w) e ∙ toZ-ofZ g
+
+  -- `==` of signed numbers, as a value
+  pub eq-bits : eqb (ofZ w x) (ofZ w y) ≡ eqZ x y
+  eq-bits = go (eqb (ofZ w x) (ofZ w y)) refl
+    where
+      go : (b : Bool) → eqb (ofZ w x) (ofZ w y) ≡ b → b ≡ eqZ x y
+      go true e = sym (ap (λ (z : ℤ). eqZ x z) (sym (same-bits (eqb-true (ofZ w x) (ofZ w y) e))) ∙ eqZ-refl x)
+      go false e = sym (eqZ-false x y (λ q. eqb-false (ofZ w x) (ofZ w y) e (ap (ofZ w) q)))
 
   pub eq-signed : ofZ w x ≡ ofZ w y → eqZ x y ≡ true
   eq-signed e = ap (λ (z : ℤ). eqZ x z) (sym (same-bits e)) ∙ eqZ-refl x
