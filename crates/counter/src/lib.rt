@@ -9,3 +9,4 @@ pub mod outputs;
 pub mod rules;
 pub mod sampling;
 pub mod state;
+pub mod stepping;
