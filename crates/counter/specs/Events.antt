@@ -112,20 +112,25 @@ setTo n v c = cond (isZero v) (off n c) (on n c)
 unfoldable pub deviceWrite : ℕ → ℤ → Counter → Counter
 deviceWrite sub v c = cond (eqb sub 4) (setTo AS v c) (withStaged (device sub v (c .staged)) c)
 
--- 4: SP going 0 to 1 loads; the write is done whether the load is accepted or not
+-- 4: SP going 0 to 1
+unfoldable pub spRises : ℕ → ℤ → Counter → Bool
+spRises sub v c = eqb sub SP && not (isZero v) && not (flag c SP)
+
+-- loads; the write is done whether the load is accepted or not
 unfoldable pub flagWrite : ℕ → ℤ → Counter → Counter
-flagWrite sub v c = cond (eqb sub SP && not (isZero v) && not (flag c SP)) (load (on SP c)) (setTo sub v c)
+flagWrite sub v c = cond (spRises sub v c) (load (on SP c)) (setTo sub v c)
 
 -- 8: LPI, HPI, UFI, OFI go to 0, running and waiting are emptied
 abbrev pub emptied : Counter → Counter
 emptied c = withCauses 0 (0 ∷ 0 ∷ []) 0 (withFlags (quiet (c .flags)) c)
 
--- then, if AS, a load, and FE 1 if accepted
+-- a load, and FE 1 if accepted
+unfoldable pub autoStart : Counter → Counter
+autoStart c = cond (eqb (firstBroken (c .staged)) 0) (on FE (accepted c)) (rejected (firstBroken (c .staged)) c)
+
+-- then, if AS, a load
 unfoldable pub enterRun : Counter → Counter
-enterRun c =
-    cond (flag c AS)
-    (cond (eqb (firstBroken (c .staged)) 0) (on FE (accepted (emptied c))) (rejected (firstBroken (c .staged)) (emptied c)))
-    (emptied c)
+enterRun c = cond (flag c AS) (autoStart (emptied c)) (emptied c)
 
 -- 9: outputs not in active OMB take the value's bits, the others stay
 unfoldable pub programWord : ℕ → ℕ → ℕ → ℕ

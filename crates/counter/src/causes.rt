@@ -8,15 +8,25 @@ ghost use Rattle.counter.specs.Parts.{UIL, on};
 ghost use Rattle.counter.specs.Interrupts.{masked, enabled, quiet, started, starting, waiting, resting, advancing, post, finish, withOutputs, raise};
 
 const UIE: u32 = 0;
+
 const UIL: u32 = 1;
+
 const FE: u32 = 2;
+
 const LPM: u32 = 7;
+
 const HPM: u32 = 8;
+
 const UFM: u32 = 9;
+
 const OFM: u32 = 10;
+
 const LPI: u32 = 11;
+
 const HPI: u32 = 12;
+
 const UFI: u32 = 13;
+
 const OFI: u32 = 14;
 
 // The cause's mask.
@@ -43,7 +53,10 @@ fn enabled(flags: u32, cause: u8) -> bool
 pub fn quiet(flags: u32) -> u32
     ensures { λ r. ⌜ r ≡ quiet flags ⌝ }
 {
-    bits::clear(bits::clear(bits::clear(bits::clear(flags, LPI), HPI), UFI), OFI)
+    bits::clear(
+        bits::clear(bits::clear(bits::clear(flags, LPI), HPI), UFI),
+        OFI,
+    )
 }
 
 // The cause's bit of the four at 1, the other three at 0.
@@ -98,7 +111,11 @@ pub fn post(c: Counter, cause: u8) -> Counter
     if c.running == 0 {
         start(c, cause)
     } else {
-        if c.queued < 2 { wait(c, cause) } else { lose(c) }
+        if c.queued < 2 {
+            wait(c, cause)
+        } else {
+            lose(c)
+        }
     }
 }
 
@@ -153,5 +170,9 @@ pub fn raise(c: Counter, cause: u8) -> Counter
     ensures { λ r. ⌜ r ≡ raise cause c ⌝ }
 {
     let d = with_outputs(c, cause);
-    if enabled(c.flags, cause) { post(d, cause) } else { d }
+    if enabled(c.flags, cause) {
+        post(d, cause)
+    } else {
+        d
+    }
 }

@@ -5,8 +5,11 @@ ghost use mathlib.Core.Path.{_≡_};
 ghost use Rattle.counter.specs.Sample.{up, down, upFlags, downFlags};
 
 const DIR: u32 = 15;
+
 const UF: u32 = 16;
+
 const OF: u32 = 17;
+
 const MD: u32 = 18;
 
 // A count up. In modes 0 and 1 (`single`) ACC goes on from 0.
@@ -14,13 +17,27 @@ pub fn up(single: bool, acc: i32, hip: i32, ovf: i32, unf: i32) -> Counted
     ensures { λ r. ⌜ r ≡ up single acc hip ovf unf ⌝ }
 {
     if ovf <= acc {
-        if single { Counted { acc: 0, cause: 4 } } else { Counted { acc: unf, cause: 4 } }
+        if single {
+            Counted { acc: 0, cause: 4 }
+        } else {
+            Counted { acc: unf, cause: 4 }
+        }
     } else {
         let next = acc + 1;
         if next == hip {
-            if single { Counted { acc: 0, cause: 2 } } else { Counted { acc: next, cause: 2 } }
+            if single {
+                Counted { acc: 0, cause: 2 }
+            } else {
+                Counted {
+                    acc: next,
+                    cause: 2,
+                }
+            }
         } else {
-            Counted { acc: next, cause: 0 }
+            Counted {
+                acc: next,
+                cause: 0,
+            }
         }
     }
 }
@@ -34,9 +51,15 @@ pub fn down(acc: i32, lop: i32, ovf: i32, unf: i32) -> Counted
     } else {
         let next = acc - 1;
         if next == lop {
-            Counted { acc: next, cause: 1 }
+            Counted {
+                acc: next,
+                cause: 1,
+            }
         } else {
-            Counted { acc: next, cause: 0 }
+            Counted {
+                acc: next,
+                cause: 0,
+            }
         }
     }
 }
@@ -49,7 +72,11 @@ pub fn up_flags(single: bool, cause: u8, flags: u32) -> u32
     if cause == 4 {
         bits::set(counted, OF)
     } else {
-        if (cause == 2) & single { bits::set(counted, MD) } else { counted }
+        if (cause == 2) & single {
+            bits::set(counted, MD)
+        } else {
+            counted
+        }
     }
 }
 
@@ -58,5 +85,9 @@ pub fn down_flags(cause: u8, flags: u32) -> u32
     ensures { λ r. ⌜ r ≡ downFlags cause flags ⌝ }
 {
     let counted = bits::clear(flags, DIR);
-    if cause == 3 { bits::set(counted, UF) } else { counted }
+    if cause == 3 {
+        bits::set(counted, UF)
+    } else {
+        counted
+    }
 }

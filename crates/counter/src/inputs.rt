@@ -41,7 +41,11 @@ pub fn has_reset(m: u8) -> bool
 fn alone_up(old: u8, new: u8) -> Count
     ensures { λ r. ⌜ r ≡ aloneUp old new ⌝ }
 {
-    if rises(old, new, 0) { Count::Up } else { Count::None }
+    if rises(old, new, 0) {
+        Count::Up
+    } else {
+        Count::None
+    }
 }
 
 // Modes 2 and 3: input 1 gives the direction.
@@ -49,7 +53,11 @@ fn by_level(old: u8, new: u8) -> Count
     ensures { λ r. ⌜ r ≡ byLevel old new ⌝ }
 {
     if rises(old, new, 0) {
-        if is_on(new, 1) { Count::Down } else { Count::Up }
+        if is_on(new, 1) {
+            Count::Down
+        } else {
+            Count::Up
+        }
     } else {
         Count::None
     }
@@ -60,9 +68,17 @@ fn by_input(old: u8, new: u8) -> Count
     ensures { λ r. ⌜ r ≡ byInput old new ⌝ }
 {
     if rises(old, new, 0) {
-        if rises(old, new, 1) { Count::None } else { Count::Up }
+        if rises(old, new, 1) {
+            Count::None
+        } else {
+            Count::Up
+        }
     } else {
-        if rises(old, new, 1) { Count::Down } else { Count::None }
+        if rises(old, new, 1) {
+            Count::Down
+        } else {
+            Count::None
+        }
     }
 }
 
@@ -76,7 +92,11 @@ fn by_phase(old: u8, new: u8) -> Count
         if rises(old, new, 0) {
             Count::Up
         } else {
-            if falls(old, new, 0) { Count::Down } else { Count::None }
+            if falls(old, new, 0) {
+                Count::Down
+            } else {
+                Count::None
+            }
         }
     }
 }

@@ -6,6 +6,7 @@ pub mod inputs;
 pub mod legality;
 pub mod loading;
 pub mod outputs;
+pub mod reading;
 pub mod rules;
 pub mod sampling;
 pub mod state;

@@ -7,6 +7,7 @@ ghost use mathlib.Core.Path.{_≡_};
 ghost use Rattle.counter.specs.Loading.{withoutError, accepted, rejected, load, withPresets, hslBroken, presetAccepted, presetLoad};
 
 const ED: u32 = 4;
+
 const LOADED: u32 = 19;
 
 // ED 0, ER 0.
@@ -46,7 +47,11 @@ pub fn load(c: Counter) -> Counter
 {
     let s = c.staged;
     let broken = rules::first_broken(s);
-    if broken == 0 { accept(c) } else { reject(c, broken) }
+    if broken == 0 {
+        accept(c)
+    } else {
+        reject(c, broken)
+    }
 }
 
 // Active settings with the presets of the staged ones.
@@ -87,7 +92,11 @@ pub fn preset_load(c: Counter) -> Counter
     let a = c.active;
     if bits::has(c.flags, LOADED) {
         let broken = presets_broken(s, a);
-        if broken == 0 { accept_presets(c) } else { reject(c, broken) }
+        if broken == 0 {
+            accept_presets(c)
+        } else {
+            reject(c, broken)
+        }
     } else {
         c
     }

@@ -11,6 +11,7 @@ ghost use Rattle.counter.specs.Parts.{withLevels};
 ghost use Rattle.counter.specs.Sample.{countUp, countDown, count, counting, resets, reset, sample};
 
 const CE: u32 = 5;
+
 const LOADED: u32 = 19;
 
 fn count_up(c: Counter) -> Counter

@@ -1,4 +1,6 @@
-// The counter's parts.
+// The counter's parts, and the counter as it starts.
+ghost use mathlib.Core.Path.{_≡_};
+ghost use Rattle.counter.specs.Parts.{fresh};
 
 // What a load copies from staged to active, in the snapshot's order.
 pub struct Settings {
@@ -38,4 +40,44 @@ pub enum Count {
 pub struct Counted {
     pub acc: i32,
     pub cause: u8,
+}
+
+// A counter that was never set up.
+pub fn fresh() -> Counter
+    ensures { λ r. ⌜ r ≡ fresh ⌝ }
+{
+    let staged = Settings {
+        pfn: 0,
+        mode: 0,
+        hip: 2147483647,
+        lop: -2147483648,
+        ovf: 2147483647,
+        unf: -2147483648,
+        omb: 0,
+        hpo: 0,
+        lpo: 0,
+    };
+    let active = Settings {
+        pfn: 0,
+        mode: 0,
+        hip: 0,
+        lop: 0,
+        ovf: 0,
+        unf: 0,
+        omb: 0,
+        hpo: 0,
+        lpo: 0,
+    };
+    Counter {
+        staged,
+        active,
+        acc: 0,
+        out: 0,
+        er: 0,
+        flags: 1920,
+        levels: 0,
+        running: 0,
+        waiting: [0, 0],
+        queued: 0,
+    }
 }

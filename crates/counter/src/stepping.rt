@@ -10,11 +10,16 @@ use super::state::Settings;
 use word::bits;
 use word::sign;
 ghost use mathlib.Core.Path.{_≡_};
+ghost use mathlib.Core.Bool.{true};
 ghost use Prim.Native.Nat.{_<_};
-ghost use Rattle.counter.specs.Events.{levelsOf, wordOf, shortOf, staged, stagedWrite, device, setTo, deviceWrite, flagWrite, emptied, enterRun, outputWrite, apply, step};
+ghost use Rattle.counter.specs.Parts.{withAcc, on, SP, FE};
+ghost use Rattle.counter.specs.Loading.{load};
+ghost use Rattle.counter.specs.Events.{legal, levelsOf, wordOf, shortOf, staged, stagedWrite, device, setTo, deviceWrite, spRises, flagWrite, emptied, autoStart, enterRun, outputWrite, apply, step};
 
 const FE: u32 = 2;
+
 const AS: u32 = 3;
+
 const SP: u32 = 6;
 
 fn levels_of(v: i32) -> u8
@@ -129,5 +134,128 @@ fn device_write(c: Counter, sub: u8, v: i32) -> Counter
         let mut d = c;
         d.staged = t;
         d
+    }
+}
+
+// SP at 1, and a load.
+fn load_by_sp(c: Counter) -> Counter
+    ensures { λ r. ⌜ r ≡ load (on SP c) ⌝ }
+{
+    let mut d = c;
+    d.flags = bits::set(c.flags, SP);
+    loading::load(d)
+}
+
+// Whether the write takes SP from 0 to 1.
+fn sp_rises(c: Counter, sub: u8, v: i32) -> bool
+    ensures { λ r. ⌜ r ≡ spRises sub v c ⌝ }
+{
+    (sub == 6) & !legality::is_zero(v) & !bits::has(c.flags, SP)
+}
+
+// Kind 4.
+fn flag_write(c: Counter, sub: u8, v: i32) -> Counter
+    requires { ⌜ sub < 32 ⌝ }
+    ensures { λ r. ⌜ r ≡ flagWrite sub v c ⌝ }
+{
+    if sp_rises(c, sub, v) {
+        load_by_sp(c)
+    } else {
+        set_to(c, sub as u32, v)
+    }
+}
+
+// Kind 5.
+fn with_acc(c: Counter, v: i32) -> Counter
+    ensures { λ r. ⌜ r ≡ withAcc v c ⌝ }
+{
+    let mut d = c;
+    d.acc = v;
+    d
+}
+
+// LPI, HPI, UFI, OFI at 0, no cause running or waiting.
+fn emptied(c: Counter) -> Counter
+    ensures { λ r. ⌜ r ≡ emptied c ⌝ }
+{
+    let none = [0u8; 2];
+    let mut d = c;
+    d.flags = causes::quiet(c.flags);
+    d.running = 0;
+    d.waiting = none;
+    d.queued = 0;
+    d
+}
+
+fn enable(c: Counter) -> Counter
+    ensures { λ r. ⌜ r ≡ on FE c ⌝ }
+{
+    let mut d = c;
+    d.flags = bits::set(c.flags, FE);
+    d
+}
+
+// A load at enter run, and FE 1 if it is accepted.
+fn auto_start(c: Counter) -> Counter
+    ensures { λ r. ⌜ r ≡ autoStart c ⌝ }
+{
+    let s = c.staged;
+    let broken = rules::first_broken(s);
+    if broken == 0 {
+        enable(loading::accept(c))
+    } else {
+        loading::reject(c, broken)
+    }
+}
+
+// Kind 8.
+fn enter_run(c: Counter) -> Counter
+    ensures { λ r. ⌜ r ≡ enterRun c ⌝ }
+{
+    let d = emptied(c);
+    if bits::has(c.flags, AS) {
+        auto_start(d)
+    } else {
+        d
+    }
+}
+
+// Kind 9.
+fn output_write(c: Counter, v: i32) -> Counter
+    ensures { λ r. ⌜ r ≡ outputWrite v c ⌝ }
+{
+    let a = c.active;
+    let mut d = c;
+    d.out = outputs::program_word(a.omb, word_of(v), c.out);
+    d
+}
+
+// The step of a legal event, by its kind.
+fn apply(c: Counter, kind: u8, sub: u8, v: i32) -> Counter
+    requires { ⌜ legal kind sub v ≡ true ⌝ }
+    ensures { λ r. ⌜ r ≡ apply kind sub v c ⌝ }
+{
+    match kind {
+        1 => sampling::sample(c, levels_of(v)),
+        2 => staged_write(c, sub, v),
+        3 => device_write(c, sub, v),
+        4 => flag_write(c, sub, v),
+        5 => with_acc(c, v),
+        6 => loading::preset_load(c),
+        7 => causes::finish(c),
+        8 => enter_run(c),
+        9 => output_write(c, v),
+        _ => c,
+    }
+}
+
+// The counter after an event; one that is not legal changes nothing.
+pub fn step(c: Counter, kind: u8, sub: u8, v: i32) -> Counter
+    ensures { λ r. ⌜ r ≡ step kind sub v c ⌝ }
+{
+    if legality::legal(kind, sub, v) {
+        apply(c, kind, sub, v)
+    } else {
+        c
     }
 }

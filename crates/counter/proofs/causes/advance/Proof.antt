@@ -1,3 +1,4 @@
+-- `counter::causes::advance` meets its contract: the flags are those of the waiting cause that starts.
 use borrow.Author.Needs.{needs}
 use Rattle.counter.proofs.causes.advance.Statement.{statement}
 use Rattle.counter.proofs.causes.advance.Tie as tie

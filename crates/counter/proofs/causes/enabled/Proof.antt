@@ -1,3 +1,4 @@
+-- `counter::causes::enabled` meets its contract: the three tests are the definition's.
 use borrow.Author.Needs.{needs}
 use Rattle.counter.specs.Interrupts.{enabled}
 use Rattle.counter.proofs.causes.enabled.Statement.{statement}

@@ -1,3 +1,4 @@
+-- `counter::causes::finish` meets its contract: each test is the definition's, in its order.
 use borrow.Author.Needs.{needs}
 use Rattle.counter.specs.Interrupts.{finish}
 use Rattle.word.proofs.Branches.{branches}

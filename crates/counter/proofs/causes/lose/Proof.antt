@@ -1,3 +1,4 @@
+-- `counter::causes::lose` meets its contract: UIL is set.
 use borrow.Author.Needs.{needs}
 use Rattle.counter.proofs.causes.lose.Statement.{statement}
 use Rattle.counter.proofs.causes.lose.Tie as tie

@@ -1,3 +1,4 @@
+-- `counter::causes::masked` meets its contract: a number among the arms picks the definition's case.
 use borrow.Author.Needs.{needs}
 use Rattle.counter.specs.Interrupts.{masked}
 use Rattle.word.proofs.Branches.{branches}

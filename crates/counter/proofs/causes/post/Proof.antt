@@ -1,3 +1,4 @@
+-- `counter::causes::post` meets its contract: each test is the definition's, in its order.
 use borrow.Author.Needs.{needs}
 use Rattle.counter.specs.Interrupts.{post}
 use Rattle.word.proofs.Branches.{branches}

@@ -1,3 +1,4 @@
+-- `counter::causes::quiet` meets its contract: the four bits are cleared one after the other.
 use borrow.Author.Needs.{needs}
 use Rattle.counter.specs.Interrupts.{quiet}
 use Rattle.counter.proofs.causes.quiet.Statement.{statement}

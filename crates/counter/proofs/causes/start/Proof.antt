@@ -1,3 +1,4 @@
+-- `counter::causes::start` meets its contract: the flags are those of the cause that starts.
 use borrow.Author.Needs.{needs}
 use Rattle.counter.proofs.causes.start.Statement.{statement}
 use Rattle.counter.proofs.causes.start.Tie as tie

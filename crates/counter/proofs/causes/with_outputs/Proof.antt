@@ -1,3 +1,4 @@
+-- `counter::causes::with_outputs` meets its contract: the output word is the cause's.
 use borrow.Author.Needs.{needs}
 use Rattle.counter.proofs.causes.with_outputs.Statement.{statement}
 use Rattle.counter.proofs.causes.with_outputs.Tie as tie

@@ -1,3 +1,4 @@
+-- `counter::inputs::alone_up` meets its contract: the test is the definition's.
 use borrow.Author.Needs.{needs}
 use Rattle.counter.specs.Sample.{aloneUp}
 use Rattle.word.proofs.Branches.{calls}

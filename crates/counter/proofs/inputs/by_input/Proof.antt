@@ -1,3 +1,4 @@
+-- `counter::inputs::by_input` meets its contract: each test is the definition's, in its order.
 use borrow.Author.Needs.{needs}
 use Rattle.counter.specs.Sample.{byInput}
 use Rattle.word.proofs.Branches.{calls}

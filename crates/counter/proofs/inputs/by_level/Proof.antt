@@ -1,3 +1,4 @@
+-- `counter::inputs::by_level` meets its contract: each test is the definition's, in its order.
 use borrow.Author.Needs.{needs}
 use Rattle.counter.specs.Sample.{byLevel}
 use Rattle.word.proofs.Branches.{calls}

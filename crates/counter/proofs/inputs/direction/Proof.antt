@@ -1,3 +1,4 @@
+-- `counter::inputs::direction` meets its contract: the ranges are the definition's tests, in its order.
 use borrow.Author.Needs.{needs}
 use Rattle.counter.specs.Sample.{direction}
 use Rattle.word.proofs.Branches.{branches}

@@ -1,3 +1,4 @@
+-- `counter::inputs::falls` meets its contract: the two levels are the definition's.
 use borrow.Author.Needs.{needs}
 use Rattle.counter.proofs.inputs.falls.Statement.{statement}
 use Rattle.counter.proofs.inputs.falls.Tie as tie

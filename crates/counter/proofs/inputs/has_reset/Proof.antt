@@ -1,4 +1,4 @@
-use borrow.Author.Needs.{needs}
+-- `counter::inputs::has_reset` meets its contract: the code is the definition.
 use Rattle.counter.specs.Sample.{hasReset}
 use Rattle.counter.proofs.inputs.has_reset.Statement.{statement}
 use Rattle.counter.proofs.inputs.has_reset.Tie as tie

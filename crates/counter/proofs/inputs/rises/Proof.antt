@@ -1,3 +1,4 @@
+-- `counter::inputs::rises` meets its contract: the two levels are the definition's.
 use borrow.Author.Needs.{needs}
 use Rattle.counter.proofs.inputs.rises.Statement.{statement}
 use Rattle.counter.proofs.inputs.rises.Tie as tie

@@ -1,3 +1,4 @@
+-- `counter::loading::accept` meets its contract: the settings and the flag are set, then the error cleared.
 use borrow.Author.Needs.{needs}
 use mathlib.Core.Path.{_∙_}
 use Rattle.counter.proofs.loading.accept.Statement.{statement}

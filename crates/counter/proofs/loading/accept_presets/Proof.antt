@@ -1,3 +1,4 @@
+-- `counter::loading::accept_presets` meets its contract: the presets are set, then the error cleared.
 use borrow.Author.Needs.{needs}
 use mathlib.Core.Path.{_∙_}
 use Rattle.counter.proofs.loading.accept_presets.Statement.{statement}

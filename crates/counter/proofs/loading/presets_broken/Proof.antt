@@ -16,7 +16,7 @@ preset-broken-requires c κs = search needs
 
 returns : tie.Need-returns
 unfolding hslBroken
-returns c = 
+returns c =
     let moded = c .before .before .before .before .before in
     let args = moded .before .before .args in
     let a = settings-told (args .a) _ (moded .before .struct-told .given) in

@@ -1,3 +1,4 @@
+-- `counter::loading::reject` meets its contract: ED and ER are set.
 use borrow.Author.Needs.{needs}
 use Rattle.counter.proofs.loading.reject.Statement.{statement}
 use Rattle.counter.proofs.loading.reject.Tie as tie

@@ -1,3 +1,4 @@
+-- `counter::loading::without_error` meets its contract: ED and ER are cleared.
 use borrow.Author.Needs.{needs}
 use Rattle.counter.proofs.loading.without_error.Statement.{statement}
 use Rattle.counter.proofs.loading.without_error.Tie as tie

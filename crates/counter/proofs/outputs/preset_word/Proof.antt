@@ -1,3 +1,4 @@
+-- `counter::outputs::preset_word` meets its contract: the code is the definition's merge.
 use borrow.Author.Needs.{needs}
 use Rattle.counter.specs.Interrupts.{presetWord}
 use Rattle.counter.proofs.outputs.preset_word.Statement.{statement}

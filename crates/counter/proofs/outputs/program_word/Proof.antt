@@ -1,3 +1,4 @@
+-- `counter::outputs::program_word` meets its contract: the code is the definition's merge.
 use borrow.Author.Needs.{needs}
 use Rattle.counter.specs.Events.{programWord}
 use Rattle.counter.proofs.outputs.program_word.Statement.{statement}

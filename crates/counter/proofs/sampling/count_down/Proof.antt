@@ -18,7 +18,6 @@ counted c =
     c .down .ensures
     ∙ simp (signed-unsigned (t .acc), signed-unsigned (a .lop), signed-unsigned (a .ovf), signed-unsigned (a .unf))
 
-
 down-requires : tie.Need-down-requires
 down-requires c κs = search needs
 
@@ -30,7 +29,7 @@ raise-requires c κs = search needs
 
 returns : tie.Need-returns
 unfolding countDown
-returns c = 
+returns c =
     let down-done = c .before .before .before in
     let k = down-done .before .before .before .before .before .before .args .c in
     let fits : SFits w32 (downOf k .acc) = rw (counted down-done) at (counted-told (down-done .down .result) _ (c .before .before .struct-told5 .given)) in

@@ -18,7 +18,6 @@ counted c =
     c .up .ensures
     ∙ simp (c .before .before .before .before .before .up-only .ensures, moded .mode-of .ensures, signed-unsigned (a .mode), signed-unsigned (t .acc), signed-unsigned (a .hip), signed-unsigned (a .ovf), signed-unsigned (a .unf))
 
-
 mode-of-requires : tie.Need-mode-of-requires
 mode-of-requires c κs = search needs
 
@@ -36,7 +35,7 @@ raise-requires c κs = search needs
 
 returns : tie.Need-returns
 unfolding countUp
-returns c = 
+returns c =
     let up-done = c .before .before .before in
     let moded = up-done .before .before .before .before .before .before in
     let k = moded .before .before .before .args .c in

@@ -1,3 +1,4 @@
+-- `counter::sampling::may_count` meets its contract: the tests are the definition's.
 use borrow.Author.Needs.{needs}
 use Rattle.counter.specs.Sample.{counting}
 use Rattle.counter.proofs.sampling.may_count.Statement.{statement}

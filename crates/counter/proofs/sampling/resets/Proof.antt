@@ -1,3 +1,4 @@
+-- `counter::sampling::resets` meets its contract: the tests are the definition's.
 use borrow.Author.Needs.{needs}
 use Rattle.counter.specs.Sample.{resets}
 use Rattle.counter.proofs.sampling.resets.Statement.{statement}

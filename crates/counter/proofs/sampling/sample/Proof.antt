@@ -24,7 +24,6 @@ may : (c : tie.After-may-count) (v : Bool) → c .may-count .result ≡ v
     → counting (mode (c .before .before .before .before .before .before .before .before .before .args .c)) (c .before .before .before .before .before .before .before .before .before .args .c .flags) (c .before .before .before .before .before .before .before .before .before .args .new) ≡ v
 may c v e = rw (moded (c .before .before .before .before .before .before)) at (told (c .may-count .ensures) e)
 
-
 mode-of-requires : tie.Need-mode-of-requires
 mode-of-requires c κs = search needs
 
@@ -51,14 +50,14 @@ count-requires c κs = search needs
 
 returns : tie.Need-returns
 unfolding sample
-returns c = 
+returns c =
     let tested = c .before .before in
     let first = tested .before in
     rw (told (first .before .has .ensures) (first .if1 .taken), resetting tested _ (c .before .if2 .taken)) (c .reset .ensures)
 
 returns-2 : tie.Need-returns-2
 unfolding sample
-returns-2 c = 
+returns-2 c =
     let last = c .before .before .before in
     let tested = last .before .before in
     let first = tested .before in
@@ -68,7 +67,7 @@ returns-2 c =
 
 returns-3 : tie.Need-returns-3
 unfolding sample
-returns-3 c = 
+returns-3 c =
     let last = c .before in
     let tested = last .before .before in
     let first = tested .before in

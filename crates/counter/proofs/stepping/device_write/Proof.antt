@@ -16,7 +16,7 @@ device-requires c κs = search needs
 
 returns : tie.Need-returns
 unfolding deviceWrite
-returns c = 
+returns c =
     let start = c .before .before in
     rw (eq-eqb _ _ (c .before .if1 .taken)) (c .set-to .ensures ∙ ap (λ v. setTo AS v (start .args .c)) (signed-unsigned (start .fits .v)))
 

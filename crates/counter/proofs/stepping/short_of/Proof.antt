@@ -15,7 +15,7 @@ i16-of-requires : tie.Need-i16-of-requires
 i16-of-requires c κs = search needs
 
 returns : tie.Need-returns
-returns c = 
+returns c =
     signed-unsigned (record { sfits = c .i16-of .ok })
     ∙ c .i16-of .ensures
     ∙ ap (signed w16) (c .before .word-of .ensures ∙ ap wordOf (signed-unsigned (c .before .before .fits .v)))

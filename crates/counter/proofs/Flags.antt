@@ -1,0 +1,92 @@
+-- What the flag word keeps when other flags are set or cleared: it stays below 2 ^ 20, and ED and LOADED keep their levels.
+use mathlib.Core.Path.{_≡_, refl, ap, _∙_}
+use mathlib.Core.Bool.{Bool, true, false, cond, _&&_}
+use Prim.Native.Nat.{ℕ, _<_, _^_}
+use native.Mathlib.Nat.{lt-of-le-of-lt, lt-trans}
+use lib.Dec.{T, eqb, ltb, lit<}
+use Rattle.word.specs.Masks.{bit, setBit, clearBit}
+use Rattle.word.proofs.Masks.{bit-setBit, bit-clearBit, setBit-lt, clearBit-le}
+use Rattle.counter.specs.Parts.{ED, LOADED, DIR, UF, OF, MD, LPI, HPI, UFI, OFI, lowPreset, highPreset, underflow, overflow}
+use Rattle.counter.specs.Interrupts.{quiet, started}
+use Rattle.counter.specs.Sample.{upFlags, downFlags}
+
+pub record Kept (w v : ℕ) : Type 0 where
+  pub below : w < 2 ^ 20 → v < 2 ^ 20
+  pub ed : bit v ED ≡ bit w ED
+  pub loaded : bit v LOADED ≡ bit w LOADED
+
+pub kept-refl : (w : ℕ) → Kept w w
+kept-refl w = record { below = λ h. h; ed = refl; loaded = refl }
+
+pub kept-trans : (u v w : ℕ) → Kept u v → Kept v w → Kept u w
+kept-trans u v w p q = record { below = λ h. q .below (p .below h); ed = q .ed ∙ p .ed; loaded = q .loaded ∙ p .loaded }
+
+-- ---- one flag other than ED and LOADED
+
+-- a flag of its own: neither ED nor LOADED
+pub record Other (n : ℕ) : Type 0 where
+  pub small : n < 20
+  pub not-ed : eqb n ED ≡ false
+  pub not-loaded : eqb n LOADED ≡ false
+
+pub kept-set : (w n : ℕ) → Other n → Kept w (setBit w n)
+kept-set w n o =
+    record {
+      below = λ h. setBit-lt 20 w n h (o .small);
+      ed = bit-setBit w n ED ∙ ap (λ (b : Bool). cond b true (bit w ED)) (o .not-ed);
+      loaded = bit-setBit w n LOADED ∙ ap (λ (b : Bool). cond b true (bit w LOADED)) (o .not-loaded)
+    }
+
+pub kept-clear : (w n : ℕ) → Other n → Kept w (clearBit 32 w n)
+kept-clear w n o =
+    let h : n < 32 = lt-trans (o .small) (lit< tt) in
+    record {
+      below = λ b. lt-of-le-of-lt (clearBit-le 32 w n) b;
+      ed = bit-clearBit 32 w n ED h (lit< tt) ∙ ap (λ (b : Bool). cond b false (bit w ED)) (o .not-ed);
+      loaded = bit-clearBit 32 w n LOADED h (lit< tt) ∙ ap (λ (b : Bool). cond b false (bit w LOADED)) (o .not-loaded)
+    }
+
+-- a flag that is written out
+pub other : (n : ℕ) → T (ltb n 20) → eqb n ED ≡ false → eqb n LOADED ≡ false → Other n
+other n t e l = record { small = lit< t; not-ed = e; not-loaded = l }
+
+-- ---- the flags of counting and of causes
+
+pub kept-cond : {u v w : ℕ} (b : Bool) → Kept u v → Kept u w → Kept u (cond b v w)
+kept-cond true p q = p
+kept-cond false p q = q
+
+pub kept-upFlags : (single : Bool) (cause w : ℕ) → Kept w (upFlags single cause w)
+unfolding upFlags
+kept-upFlags single cause w =
+    let up : ℕ = setBit w DIR in
+    let dir : Kept w up = kept-set w DIR (other DIR tt refl refl) in
+    kept-cond (eqb cause overflow) (kept-trans w up (setBit up OF) dir (kept-set up OF (other OF tt refl refl)))
+    (kept-cond (eqb cause highPreset && single) (kept-trans w up (setBit up MD) dir (kept-set up MD (other MD tt refl refl))) dir)
+
+pub kept-downFlags : (cause w : ℕ) → Kept w (downFlags cause w)
+unfolding downFlags
+kept-downFlags cause w =
+    let down : ℕ = clearBit 32 w DIR in
+    let dir : Kept w down = kept-clear w DIR (other DIR tt refl refl) in
+    kept-cond (eqb cause underflow) (kept-trans w down (setBit down UF) dir (kept-set down UF (other UF tt refl refl))) dir
+
+pub kept-quiet : (w : ℕ) → Kept w (quiet w)
+unfolding quiet
+kept-quiet w =
+    let a : ℕ = clearBit 32 w LPI in
+    let b : ℕ = clearBit 32 a HPI in
+    let c : ℕ = clearBit 32 b UFI in
+    kept-trans w a _ (kept-clear w LPI (other LPI tt refl refl))
+    (kept-trans a b _ (kept-clear a HPI (other HPI tt refl refl))
+    (kept-trans b c _ (kept-clear b UFI (other UFI tt refl refl)) (kept-clear c OFI (other OFI tt refl refl))))
+
+pub kept-started : (cause w : ℕ) → Kept w (started cause w)
+unfolding started
+kept-started cause w =
+    kept-cond (eqb cause lowPreset) (start LPI (other LPI tt refl refl))
+    (kept-cond (eqb cause highPreset) (start HPI (other HPI tt refl refl))
+    (kept-cond (eqb cause underflow) (start UFI (other UFI tt refl refl)) (kept-cond (eqb cause overflow) (start OFI (other OFI tt refl refl)) (kept-quiet w))))
+  where
+    start : (n : ℕ) → Other n → Kept w (setBit (quiet w) n)
+    start n o = kept-trans w (quiet w) (setBit (quiet w) n) (kept-quiet w) (kept-set (quiet w) n o)

@@ -1,0 +1,13 @@
+-- `counter::stepping::emptied` meets its contract: the flags are the definition's.
+use borrow.Author.Needs.{needs}
+use Rattle.counter.proofs.stepping.emptied.Statement.{statement}
+use Rattle.counter.proofs.stepping.emptied.Tie as tie
+
+quiet-requires : tie.Need-quiet-requires
+quiet-requires c κs = search needs
+
+returns : tie.Need-returns
+returns c = rw (c .quiet .ensures)
+
+pub emptied-spec : {M : Type 1} → statement M
+emptied-spec = tie.close (tie.spec quiet-requires returns)
