@@ -34,7 +34,7 @@ kept-set w n o =
     record {
       below = λ h. setBit-lt 20 w n h (o .small);
       ed = bit-setBit w n ED ∙ ap (λ (b : Bool). cond b true (bit w ED)) (o .not-ed);
-      loaded = bit-setBit w n LOADED ∙ ap (λ (b : Bool). cond b true (bit w LOADED)) (o .not-loaded)
+      loaded = bit-setBit w n LOADED ∙ ap (λ (b : Bool). cond b true (bit w LOADED)) (o .not-loaded);
     }
 
 pub kept-clear : (w n : ℕ) → Other n → Kept w (clearBit 32 w n)
@@ -43,7 +43,7 @@ kept-clear w n o =
     record {
       below = λ b. lt-of-le-of-lt (clearBit-le 32 w n) b;
       ed = bit-clearBit 32 w n ED h (lit< tt) ∙ ap (λ (b : Bool). cond b false (bit w ED)) (o .not-ed);
-      loaded = bit-clearBit 32 w n LOADED h (lit< tt) ∙ ap (λ (b : Bool). cond b false (bit w LOADED)) (o .not-loaded)
+      loaded = bit-clearBit 32 w n LOADED h (lit< tt) ∙ ap (λ (b : Bool). cond b false (bit w LOADED)) (o .not-loaded);
     }
 
 -- a flag that is written out

@@ -68,7 +68,7 @@ formed-parts c h =
       causes = causes-parts c (search (first, second) depth 7);
       er = leb-true (c .er) 5 (search (first, second) depth 7);
       ed = same (flag c ED) (not (eqb (c .er) 0)) (search (first, second) depth 7);
-      active = search (first, second) depth 7
+      active = search (first, second) depth 7;
     }
 
 pub parts-formed : (c : Counter) → Formed c → wellFormed c ≡ true

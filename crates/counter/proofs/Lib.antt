@@ -1,8 +1,13 @@
 -- What code knows of a counter, and the laws of the definitions in `specs/`.
+pub mod Changes
 pub mod Flags
 pub mod Formed
 pub mod Legal
 pub mod Limits
+pub mod Loads
 pub mod Modes
+pub mod Queue
 pub mod Ranges
+pub mod Samples
+pub mod Steps
 pub mod Told

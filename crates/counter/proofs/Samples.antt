@@ -1,0 +1,133 @@
+-- Outputs, a raised cause and an input sample keep a state well formed.
+use mathlib.Core.Path.{_≡_, refl, ap, _∙_}
+use mathlib.Core.Bool.{Bool, true, false, cond, _&&_, false≢true}
+use Prim.Native.Nat.{ℕ, _<_, _≤_, _%_, _^_}
+use native.Mathlib.Nat.{mod-lt, lt-of-le-of-lt}
+use borrow.Author.Tests.{eqb-true}
+use lib.Bits.{bitAnd, bitOr, and-le-l, and-le-r, or-lt}
+use lib.Dec.{eqb, lit<}
+use lib.IntN.{ℤ, pos, _+ℤ_, _-ℤ_}
+use lib.Signed.{leZ}
+use mir.Syntax.{w32}
+use mir.Val.{SFits}
+use Rattle.word.specs.Masks.{bit, merge}
+use Rattle.word.specs.TwosComplement.{eqZ}
+use Rattle.word.proofs.Masks.{merge-lt}
+use Rattle.counter.specs.declared.state.Counter.{Counter}
+use Rattle.counter.specs.declared.state.Counted.{Counted}
+use Rattle.counter.specs.declared.state.Count.{Count}
+use Rattle.counter.specs.declared.state.Count.the-variants.{None, Up, Down}
+use Rattle.counter.specs.Parts.{FE, UIE, lowPreset, highPreset, underflow, overflow, LPM, HPM, UFM, OFM, LOADED, flag, withAcc, withFlags, withLevels, upOnly, mode}
+use Rattle.counter.specs.Interrupts.{outputMask, presetWord, causeWord, masked, enabled, post, withOutputs, raise}
+use Rattle.counter.specs.Sample.{counted, up, down, upFlags, downFlags, upOf, downOf, countUp, countDown, count, resets, reset, counting, direction, sample}
+use Rattle.counter.specs.Events.{from, programWord}
+use Rattle.counter.specs.WellFormed.{SettingsTyped}
+use Rattle.counter.proofs.Limits.{up-fits, down-fits}
+use Rattle.counter.proofs.Flags.{kept-upFlags, kept-downFlags}
+use Rattle.counter.proofs.Formed.{second}
+use Rattle.counter.proofs.Changes.{Well, well-out, well-acc, well-flags, well-levels}
+use Rattle.counter.proofs.Queue.{well-cond, well-post}
+
+-- ---- outputs stay below 2 ^ 12
+
+pub presetWord-lt : (omb word out : ℕ) → out < 2 ^ 12 → presetWord omb word out < 2 ^ 12
+unfolding presetWord merge
+presetWord-lt omb word out h =
+    or-lt 12 (bitAnd word (outputMask omb)) _ (lt-of-le-of-lt (and-le-r word (outputMask omb)) (mod-lt omb (lit< tt))) (lt-of-le-of-lt (and-le-l out _) h)
+
+pub causeWord-lt : (cause omb hpo lpo out : ℕ) → out < 2 ^ 12 → causeWord cause omb hpo lpo out < 2 ^ 12
+unfolding causeWord
+causeWord-lt cause omb hpo lpo out h =
+    below (eqb cause highPreset) (presetWord-lt omb hpo out h) (below (eqb cause lowPreset) (presetWord-lt omb lpo out h) h)
+  where
+    below : (b : Bool) {m n : ℕ} → m < 2 ^ 12 → n < 2 ^ 12 → cond b m n < 2 ^ 12
+    below true p q = p
+    below false p q = q
+
+pub programWord-lt : (omb word out : ℕ) → out < 2 ^ 12 → programWord omb word out < 2 ^ 12
+unfolding programWord
+programWord-lt omb word out h = merge-lt 12 16 (outputMask omb) out (word % 4096) h (mod-lt word (lit< tt))
+
+-- ---- a raised cause
+
+-- only 1 to 4 become interrupts
+enabled-cause : (flags cause : ℕ) → enabled flags cause ≡ true → from 1 4 cause ≡ true
+unfolding enabled masked
+enabled-cause flags cause h = go (eqb cause 1) (eqb cause 2) (eqb cause 3) (eqb cause 4) refl refl refl refl
+  where
+    m : masked flags cause ≡ true
+    m = second (bit flags FE && bit flags UIE) (masked flags cause) h
+
+    go : (a b c d : Bool) → eqb cause 1 ≡ a → eqb cause 2 ≡ b → eqb cause 3 ≡ c → eqb cause 4 ≡ d → from 1 4 cause ≡ true
+    go true b c d p q r s = rw (eqb-true cause 1 p)
+    go false true c d p q r s = rw (eqb-true cause 2 q)
+    go false false true d p q r s = rw (eqb-true cause 3 r)
+    go false false false true p q r s = rw (eqb-true cause 4 s)
+    go false false false false p q r s = absurd (false≢true (rw (p, q, r, s) at m))
+
+pub well-raise : (c : Counter) (cause : ℕ) → Well c → Well (raise cause c)
+unfolding raise
+well-raise c cause w =
+    let put : Well (withOutputs cause c) = well-out c w (causeWord cause (c .active .omb) (c .active .hpo) (c .active .lpo) (c .out)) (causeWord-lt cause (c .active .omb) (c .active .hpo) (c .active .lpo) (c .out) (w .formed .out)) in
+    well-cond (enabled (c .flags) cause) (post cause (withOutputs cause c)) (withOutputs cause c)
+    (λ e. well-post (withOutputs cause c) cause put (enabled-cause (c .flags) cause e))
+    (λ e. put)
+
+-- ---- a count
+
+cond-fits : (b : Bool) (x y : Counted) → (b ≡ true → SFits w32 (x .acc)) → (b ≡ false → SFits w32 (y .acc)) → SFits w32 (cond b x y .acc)
+cond-fits true x y p q = p refl
+cond-fits false x y p q = q refl
+
+pub up-acc : (single : Bool) (acc hip ovf unf : ℤ) → SFits w32 acc → SFits w32 ovf → SFits w32 unf → SFits w32 (up single acc hip ovf unf .acc)
+unfolding up
+up-acc single acc hip ovf unf a o u =
+    cond-fits (leZ ovf acc) _ _
+    (λ e. cond-fits single (counted (pos 0) overflow) (counted unf overflow) (λ s. zero) (λ s. u))
+    (λ e. cond-fits (eqZ (acc +ℤ pos 1) hip) _ _ (λ l. cond-fits single (counted (pos 0) highPreset) (counted (acc +ℤ pos 1) highPreset) (λ s. zero) (λ s. up-fits a o e)) (λ l. up-fits a o e))
+  where
+    zero : SFits w32 (pos 0)
+    zero = record { sfits = lit< tt }
+
+pub down-acc : (acc lop ovf unf : ℤ) → SFits w32 acc → SFits w32 ovf → SFits w32 unf → SFits w32 (down acc lop ovf unf .acc)
+unfolding down
+down-acc acc lop ovf unf a o u =
+    cond-fits (leZ acc unf) _ _ (λ e. o)
+    (λ e. cond-fits (eqZ (acc -ℤ pos 1) lop) (counted (acc -ℤ pos 1) lowPreset) (counted (acc -ℤ pos 1) 0) (λ l. down-fits a u e) (λ l. down-fits a u e))
+
+well-countUp : (c : Counter) → Well c → Well (countUp c)
+unfolding countUp
+well-countUp c w =
+    let a = w .typed .active in
+    let r : Counted = upOf c in
+    let moved : Well (withAcc (r .acc) c) = well-acc c w (r .acc) (up-acc (upOnly (mode c)) (c .acc) (c .active .hip) (c .active .ovf) (c .active .unf) (w .typed .acc) (a .ovf) (a .unf)) in
+    well-raise (withFlags (upFlags (upOnly (mode c)) (r .cause) (c .flags)) (withAcc (r .acc) c)) (r .cause)
+    (well-flags (withAcc (r .acc) c) moved (upFlags (upOnly (mode c)) (r .cause) (c .flags)) (kept-upFlags (upOnly (mode c)) (r .cause) (c .flags)))
+
+well-countDown : (c : Counter) → Well c → Well (countDown c)
+unfolding countDown
+well-countDown c w =
+    let a = w .typed .active in
+    let r : Counted = downOf c in
+    let moved : Well (withAcc (r .acc) c) = well-acc c w (r .acc) (down-acc (c .acc) (c .active .lop) (c .active .ovf) (c .active .unf) (w .typed .acc) (a .ovf) (a .unf)) in
+    well-raise (withFlags (downFlags (r .cause) (c .flags)) (withAcc (r .acc) c)) (r .cause)
+    (well-flags (withAcc (r .acc) c) moved (downFlags (r .cause) (c .flags)) (kept-downFlags (r .cause) (c .flags)))
+
+well-count : (way : Count) (c : Counter) → Well c → Well (count way c)
+unfolding count
+well-count None c w = w
+well-count Up c w = well-countUp c w
+well-count Down c w = well-countDown c w
+
+-- ---- the sample
+
+pub well-sample : (c : Counter) (new : ℕ) → Well c → new ≤ 15 → Well (sample new c)
+unfolding sample
+well-sample c new w h =
+    let stored : Well (withLevels new c) = well-levels c w new h in
+    let m : ℕ = mode c in
+    let counts : Counter = cond (counting m (c .flags) new) (count (direction m (c .levels) new) (withLevels new c)) (withLevels new c) in
+    well-cond (flag c LOADED) (cond (resets m (c .levels) new) (reset new c) counts) (withLevels new c)
+    (λ l. well-cond (resets m (c .levels) new) (reset new c) counts (λ r. well-acc (withLevels new c) stored (pos 0) (record { sfits = lit< tt }))
+    (λ r. well-cond (counting m (c .flags) new) (count (direction m (c .levels) new) (withLevels new c)) (withLevels new c) (λ k. well-count (direction m (c .levels) new) (withLevels new c) stored) (λ k. stored)))
+    (λ l. stored)
