@@ -1,7 +1,10 @@
 -- What code knows of a counter, and the laws of the definitions in `specs/`.
 pub mod Changes
+pub mod Exact
 pub mod Flags
 pub mod Formed
+pub mod Landing
+pub mod Leaves
 pub mod Legal
 pub mod Limits
 pub mod Loads

@@ -1,7 +1,10 @@
 -- Document 01, "Loading settings": the rules in their order, and what an accepted and a rejected load leave.
-use mathlib.Core.Bool.{Bool, cond, not, _&&_, _||_}
-use Prim.Native.Nat.{ℕ}
+use mathlib.Core.Path.{_≡_}
+use mathlib.Core.Bool.{Bool, true, false, cond, not, _&&_, _||_}
+use mathlib.Core.List.{List, [], _∷_}
+use Prim.Native.Nat.{ℕ, _<_}
 use lib.Dec.{eqb, ltb}
+use lib.ListN.{getD}
 use lib.IntN.{ℤ, pos}
 use lib.Signed.{ltZ, leZ}
 use Rattle.counter.specs.declared.state.Settings.{Settings}
@@ -75,3 +78,56 @@ presetLoad c =
     cond (flag c LOADED)
     (cond (eqb (hslBroken (c .staged) (c .active)) 0) (presetAccepted c) (rejected (hslBroken (c .staged) (c .active)) c))
     c
+
+-- ---- what the laws of loading say
+
+-- the rules' tests, in their order
+abbrev pub rules : Settings → List Bool
+rules s =
+    rule1 (s .pfn)
+    ∷ rule2 (modeOf (s .mode))
+    ∷ rule3 (modeOf (s .mode)) (s .hip) (s .lop)
+    ∷ rule4 (s .hip) (s .ovf)
+    ∷ rule5 (modeOf (s .mode)) (s .lop) (s .unf)
+    ∷ []
+
+-- rules 3 to 5 of a preset load
+abbrev pub presetRules : Settings → Settings → List Bool
+presetRules s a =
+    rule3 (modeOf (a .mode)) (s .hip) (s .lop) ∷ rule4 (s .hip) (a .ovf) ∷ rule5 (modeOf (a .mode)) (s .lop) (a .unf) ∷ []
+
+-- the test at place k, counted from 0, is the first that fails
+pub record First (tests : List Bool) (k : ℕ) : Type 0 where
+  pub broken : getD tests k true ≡ false
+  pub before : (i : ℕ) → i < k → getD tests i true ≡ true
+
+-- no test fails
+abbrev pub None : List Bool → Type 0
+None tests = (i : ℕ) → getD tests i true ≡ true
+
+-- what every load leaves as it was: all parts but active, ER and the flags, and all flags but ED and LOADED
+pub record Untouched (c d : Counter) : Type 0 where
+  pub staged : d .staged ≡ c .staged
+  pub acc : d .acc ≡ c .acc
+  pub out : d .out ≡ c .out
+  pub levels : d .levels ≡ c .levels
+  pub running : d .running ≡ c .running
+  pub waiting : d .waiting ≡ c .waiting
+  pub queued : d .queued ≡ c .queued
+  pub flags : (n : ℕ) → n < 32 → (n ≡ ED → ⊥) → (n ≡ LOADED → ⊥) → flag d n ≡ flag c n
+
+-- an accepted load of the settings s
+pub record Accepted (c : Counter) (s : Settings) (d : Counter) : Type 0 where
+  pub active : d .active ≡ s
+  pub loaded : flag d LOADED ≡ true
+  pub ed : flag d ED ≡ false
+  pub er : d .er ≡ 0
+  pub rest : Untouched c d
+
+-- a load that is rejected with n
+pub record Rejected (c : Counter) (n : ℕ) (d : Counter) : Type 0 where
+  pub active : d .active ≡ c .active
+  pub loaded : flag d LOADED ≡ flag c LOADED
+  pub ed : flag d ED ≡ true
+  pub er : d .er ≡ n
+  pub rest : Untouched c d

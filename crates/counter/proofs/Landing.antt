@@ -1,0 +1,102 @@
+-- Counting at the limits: OF and UF come by the count past the limit alone, a preset by the count that lands on it alone, and a
+-- rollover raises no preset. The cause is one of three by two tests.
+use mathlib.Core.Path.{_≡_, refl, sym, ap, _∙_}
+use mathlib.Core.Logic.{_↔_}
+use mathlib.Core.Bool.{Bool, true, false, cond, _&&_, true≢false, false≢true}
+use Prim.Native.Nat.{ℕ}
+use borrow.Author.Tests.{eqb-false}
+use lib.Dec.{eqb, lit<}
+use lib.IntN.{ℤ, pos, _+ℤ_, _-ℤ_}
+use lib.Signed.{leZ}
+use Rattle.word.specs.Masks.{bit, setBit, clearBit}
+use Rattle.word.specs.TwosComplement.{eqZ}
+use Rattle.word.proofs.Masks.{bit-setBit, bit-clearBit}
+use Rattle.word.proofs.Branches.{eqZ-refl, eqZ-true}
+use Rattle.counter.specs.declared.state.Counted.{Counted}
+use Rattle.counter.specs.Parts.{lowPreset, highPreset, underflow, overflow, DIR, UF, OF, MD}
+use Rattle.counter.specs.Sample.{counted, up, down, upFlags, downFlags}
+
+-- ---- one of three causes
+
+module _ (p q : ℕ) (apart : eqb p q ≡ false) (some : eqb p 0 ≡ false) (other : eqb q 0 ≡ false) where
+  pub rolls : (a b : Bool) → (cond a p (cond b q 0) ≡ p) ↔ (a ≡ true)
+  rolls true b = (λ e. refl, λ e. refl)
+  rolls false true = (λ e. absurd (eqb-false p q apart (sym e)), λ e. absurd (false≢true e))
+  rolls false false = (λ e. absurd (eqb-false p 0 some (sym e)), λ e. absurd (false≢true e))
+
+  pub meets : (a b : Bool) → (cond a p (cond b q 0) ≡ q) ↔ ((a ≡ false) × (b ≡ true))
+  meets true b = (λ e. absurd (eqb-false p q apart e), λ e. absurd (true≢false (e .0)))
+  meets false true = (λ e. (refl, refl), λ e. refl)
+  meets false false = (λ e. absurd (eqb-false q 0 other (sym e)), λ e. absurd (false≢true (e .1)))
+
+pick : (b : Bool) (x y : Counted) (n : ℕ) → x .cause ≡ n → y .cause ≡ n → cond b x y .cause ≡ n
+pick true x y n e f = e
+pick false x y n e f = f
+
+-- equality of numbers for its test
+lands : {A : Type 0} (x y : ℤ) → (A × (eqZ x y ≡ true)) ↔ (A × (x ≡ y))
+lands x y = (λ h. (h .0, eqZ-true x y (h .1)), λ h. (h .0, ap (eqZ x) (sym (h .1)) ∙ eqZ-refl x))
+
+then : {A B C : Type 0} → A ↔ B → B ↔ C → A ↔ C
+then f g = (λ a. g .0 (f .0 a), λ c. f .1 (g .1 c))
+
+-- ---- up
+
+module _ (single : Bool) (acc hip ovf unf : ℤ) where
+  up-cause : up single acc hip ovf unf .cause ≡ cond (leZ ovf acc) overflow (cond (eqZ (acc +ℤ pos 1) hip) highPreset 0)
+  unfolding up
+  up-cause = go (leZ ovf acc) (eqZ (acc +ℤ pos 1) hip)
+    where
+      go : (a b : Bool)
+          → cond a (cond single (counted (pos 0) overflow) (counted unf overflow)) (cond b (cond single (counted (pos 0) highPreset) (counted (acc +ℤ pos 1) highPreset)) (counted (acc +ℤ pos 1) 0)) .cause
+          ≡ cond a overflow (cond b highPreset 0)
+      go true b = pick single (counted (pos 0) overflow) (counted unf overflow) overflow refl refl
+      go false true = pick single (counted (pos 0) highPreset) (counted (acc +ℤ pos 1) highPreset) highPreset refl refl
+      go false false = refl
+
+  -- overflow exactly by the count past OVF
+  pub up-overflow : (up single acc hip ovf unf .cause ≡ overflow) ↔ (leZ ovf acc ≡ true)
+  up-overflow = rw up-cause (rolls overflow highPreset refl refl refl (leZ ovf acc) (eqZ (acc +ℤ pos 1) hip))
+
+  -- the high preset exactly by the count that lands on it; a rollover raises none
+  pub up-preset : (up single acc hip ovf unf .cause ≡ highPreset) ↔ ((leZ ovf acc ≡ false) × (acc +ℤ pos 1 ≡ hip))
+  up-preset = rw up-cause (then (meets overflow highPreset refl refl refl (leZ ovf acc) (eqZ (acc +ℤ pos 1) hip)) (lands (acc +ℤ pos 1) hip))
+
+-- OF is set by overflow alone, MD by the high preset in modes 0 and 1 alone
+pub upFlags-of : (single : Bool) (cause w : ℕ) → bit (upFlags single cause w) OF ≡ cond (eqb cause overflow) true (bit w OF)
+unfolding upFlags
+upFlags-of single cause w = go (eqb cause overflow) (eqb cause highPreset && single)
+  where
+    go : (a b : Bool) → bit (cond a (setBit (setBit w DIR) OF) (cond b (setBit (setBit w DIR) MD) (setBit w DIR))) OF ≡ cond a true (bit w OF)
+    go true b = bit-setBit (setBit w DIR) OF OF
+    go false true = bit-setBit (setBit w DIR) MD OF ∙ bit-setBit w DIR OF
+    go false false = bit-setBit w DIR OF
+
+-- ---- down
+
+module _ (acc lop ovf unf : ℤ) where
+  down-cause : down acc lop ovf unf .cause ≡ cond (leZ acc unf) underflow (cond (eqZ (acc -ℤ pos 1) lop) lowPreset 0)
+  unfolding down
+  down-cause = go (leZ acc unf) (eqZ (acc -ℤ pos 1) lop)
+    where
+      go : (a b : Bool) → cond a (counted ovf underflow) (cond b (counted (acc -ℤ pos 1) lowPreset) (counted (acc -ℤ pos 1) 0)) .cause ≡ cond a underflow (cond b lowPreset 0)
+      go true b = refl
+      go false true = refl
+      go false false = refl
+
+  -- underflow exactly by the count past UNF
+  pub down-underflow : (down acc lop ovf unf .cause ≡ underflow) ↔ (leZ acc unf ≡ true)
+  down-underflow = rw down-cause (rolls underflow lowPreset refl refl refl (leZ acc unf) (eqZ (acc -ℤ pos 1) lop))
+
+  -- the low preset exactly by the count that lands on it; a rollover raises none
+  pub down-preset : (down acc lop ovf unf .cause ≡ lowPreset) ↔ ((leZ acc unf ≡ false) × (acc -ℤ pos 1 ≡ lop))
+  down-preset = rw down-cause (then (meets underflow lowPreset refl refl refl (leZ acc unf) (eqZ (acc -ℤ pos 1) lop)) (lands (acc -ℤ pos 1) lop))
+
+-- UF is set by underflow alone
+pub downFlags-uf : (cause w : ℕ) → bit (downFlags cause w) UF ≡ cond (eqb cause underflow) true (bit w UF)
+unfolding downFlags
+downFlags-uf cause w = go (eqb cause underflow)
+  where
+    go : (a : Bool) → bit (cond a (setBit (clearBit 32 w DIR) UF) (clearBit 32 w DIR)) UF ≡ cond a true (bit w UF)
+    go true = bit-setBit (clearBit 32 w DIR) UF UF
+    go false = bit-clearBit 32 w DIR UF (lit< tt) (lit< tt)
