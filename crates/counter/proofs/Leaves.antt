@@ -35,8 +35,8 @@ accepted-leaves c =
         running = refl;
         waiting = refl;
         queued = refl;
-        flags = λ n l e o. clear-other v ED n (lit< tt) l e ∙ set-other (c .flags) LOADED n o
-      }
+        flags = λ n l e o. clear-other v ED n (lit< tt) l e ∙ set-other (c .flags) LOADED n o;
+      };
     }
 
 pub rejected-leaves : (c : Counter) (n : ℕ) → Rejected c n (rejected n c)
@@ -54,8 +54,8 @@ rejected-leaves c n =
         running = refl;
         waiting = refl;
         queued = refl;
-        flags = λ m l e o. set-other (c .flags) ED m e
-      }
+        flags = λ m l e o. set-other (c .flags) ED m e;
+      };
     }
 
 pub presets-leave : (c : Counter) → flag c LOADED ≡ true → Accepted c (withPresets (c .staged) (c .active)) (presetAccepted c)
@@ -73,8 +73,8 @@ presets-leave c l =
         running = refl;
         waiting = refl;
         queued = refl;
-        flags = λ n b e o. clear-other (c .flags) ED n (lit< tt) b e
-      }
+        flags = λ n b e o. clear-other (c .flags) ED n (lit< tt) b e;
+      };
     }
 
 -- ---- by the rules

@@ -14,3 +14,4 @@ pub mod Ranges
 pub mod Samples
 pub mod Steps
 pub mod Told
+pub mod Words

@@ -1,13 +1,13 @@
 -- Laws of the masks, once over the width: bit m of a word with bit n set or cleared, and of a merge. Bits of `bitAnd` and `bitOr`
 -- go by halves: bit n of a word is the parity of its quotient by 2 ^ n.
 use mathlib.Core.Path.{_≡_, refl, sym, ap, _∙_}
-use mathlib.Core.Bool.{Bool, true, false, cond, not, _&&_, _||_}
+use mathlib.Core.Bool.{Bool, true, false, cond, not, _&&_, _||_, and-true}
 use Prim.Native.Nat.{ℕ, zero, suc, _+_, _-_, _*_, _/_, _%_, _^_, _<_, _≤_, min, max}
-use native.Mathlib.Nat.{one-mul, mod-eq-of-lt, mod-lt, pow-suc, div-div-eq-div-mul, mul-comm, div-one, le-of-suc-le-suc, mul-add-mod-self-right, lt-of-le-of-lt, zero-div}
+use native.Mathlib.Nat.{one-mul, mod-eq-of-lt, mod-lt, pow-suc, div-div-eq-div-mul, mul-comm, div-one, le-of-suc-le-suc, mul-add-mod-self-right, lt-of-le-of-lt, zero-div, div-eq-of-lt, lt-of-lt-of-le, sub-zero}
 use native.Mathlib.Omega.{arith}
-use lib.Bits.{bitAnd, bitOr, and-shr, or-shr, and-step, or-step, and-le-l, or-lt}
+use lib.Bits.{bitAnd, bitOr, and-shr, or-shr, and-step, or-step, and-le-l, or-lt, and-mask}
 use lib.Dec.{eqb, eqb·suc-suc, eqb·zero-suc, eqb·suc-zero, lit<}
-use lib.Pow.{pow-lt}
+use lib.Pow.{pow-lt, pow-mono, pow-pos}
 use Rattle.word.specs.Masks.{bit, setBit, clearBit, merge}
 
 -- ---- one bit
@@ -94,6 +94,19 @@ bit-not (suc k) x (suc n) h b =
     ∙ ap (λ (w : ℕ). bit w n) half
     ∙ bit-not k (x / 2) n low (le-of-suc-le-suc b)
     ∙ ap not (sym (bit-suc x n))
+
+-- ---- the low bits of a word
+
+-- a number below 2 ^ k has no bit from k on
+pub bit-above : (w k n : ℕ) → w < 2 ^ k → k ≤ n → bit w n ≡ false
+unfolding bit
+bit-above w k n h b = rw (div-eq-of-lt (lt-of-lt-of-le h (pow-mono b)))
+
+-- the remainder by 2 ^ k has the bits below k
+pub bit-mod : (w k n : ℕ) → n < k → bit (w % 2 ^ k) n ≡ bit w n
+bit-mod w k n h =
+    let ones : bit (2 ^ k - 1) n ≡ true = ap (λ (x : ℕ). bit x n) (sym (sub-zero (2 ^ k - 1))) ∙ bit-not k 0 n (pow-pos k) h ∙ ap not (bit-of-zero n) in
+    ap (λ (x : ℕ). bit x n) (sym (and-mask w k)) ∙ bit-and w (2 ^ k - 1) n ∙ rw ones (and-true (bit w n))
 
 -- ---- setting and clearing a bit, and merging
 
