@@ -1,0 +1,4 @@
+-- The laws of the definitions in `specs/`, for callers to cite.
+pub mod Rows
+pub mod Offsets
+

@@ -1,0 +1,6 @@
+// Document 01's bytes: the snapshot of a state, and an event, read and written in a lent slice.
+pub mod event;
+
+// The bytes of a snapshot, and of an event.
+pub const SNAPSHOT_SIZE: usize = 68;
+pub const EVENT_SIZE: usize = 12;
