@@ -1,4 +1,7 @@
 -- The laws of the definitions in `specs/`, for callers to cite.
 pub mod Rows
 pub mod Offsets
-
+pub mod Causes
+pub mod Rules
+pub mod RoundTrip
+pub mod Stamp

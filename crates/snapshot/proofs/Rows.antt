@@ -1,17 +1,16 @@
 -- Rows by a layout, number by number: each number stands at its own place, and writes in the layout's order are one write.
 use mathlib.Core.Path.{_≡_, refl, sym, ap, _∙_}
-use mathlib.Core.List.{List, [], _∷_, _++_}
-use Prim.Native.Nat.{ℕ, suc, _+_, _≤_}
-use native.Mathlib.Nat.{add-assoc, suc-inj, suc-ne-zero}
+use mathlib.Core.List.{List, [], _∷_, _++_, append-assoc}
+use Prim.Native.Nat.{ℕ, suc, _+_, _%_, _≤_, _<_}
+use native.Mathlib.Nat.{add-zero, add-assoc, suc-inj, suc-ne-zero}
 use native.Mathlib.Omega.{arith}
-use lib.ListN.{length, drop}
+use lib.ListN.{length, getD, set, drop}
 use lib.Seq.{drop-drop}
-use mathlib.Core.List.{append-assoc}
 use Rattle.word.specs.Part.{Bytes, part, put}
 use Rattle.word.specs.LittleEndian.{toBytes, numberAt}
 use Rattle.word.specs.Layouts.{total, pack, unpack, Held, none, more}
-use Rattle.word.proofs.Part.{take-part, drop-part, length-put, put-put, put-nil, bytes-append}
-use Rattle.word.proofs.LittleEndian.{length-toBytes, bytes-toBytes}
+use Rattle.word.proofs.Part.{take-part, drop-part, length-put, put-put, put-nil, set-put, bytes-append}
+use Rattle.word.proofs.LittleEndian.{length-toBytes, bytes-toBytes, numberAt-suc, numberAt-zero}
 
 -- ---- reading
 
@@ -31,6 +30,17 @@ unpack-part [] s at i = refl
 unpack-part (k ∷ ks) s at i =
     rw (take-part s (at + i) k (total ks), drop-part s (at + i) k (total ks), add-assoc at i k, unpack-part ks s at (i + k))
 
+-- a layout's numbers in the bytes that it takes from place at, and in a part that is those bytes
+pub unpack-here : (ks s : List ℕ) (at : ℕ) → unpack ks (part s at (total ks)) ≡ numbersAt ks s at 0
+unpack-here ks s at = rw add-zero at (unpack-part ks s at 0)
+
+pub numbers-part : (ks s : List ℕ) (at : ℕ) → numbersAt ks (part s at (total ks)) 0 0 ≡ numbersAt ks s at 0
+numbers-part ks s at = sym (unpack-from ks (part s at (total ks)) 0 0) ∙ unpack-here ks s at
+
+-- a number of one byte is that byte
+pub number-byte : (s : List ℕ) (at : ℕ) → at < length s → numberAt s at 1 ≡ getD s at 0
+number-byte s at h = numberAt-suc s at 0 h ∙ rw (numberAt-zero s (suc at) refl) (omega arith)
+
 -- ---- writing
 
 -- s after the numbers of a row are written in the layout's order, the first i bytes past place at
@@ -48,6 +58,12 @@ put-numbers (k ∷ ks) (v ∷ vs) s at i h =
     let same : length (put s (at + i) (toBytes k v)) ≡ length s = length-put s (at + i) (toBytes k v) (omega arith) in
     put-numbers ks vs (put s (at + i) (toBytes k v)) at (i + k) (omega arith)
     ∙ rw (← add-assoc at i k) (rw w at (put-put s (at + i) (toBytes k v) (pack ks vs) (omega arith)))
+
+pub set-byte : (s : List ℕ) (at v : ℕ) → at < length s → v < 256 → set s at v ≡ put s at (toBytes 1 v)
+unfolding toBytes
+set-byte s at v h b =
+    let same : v % 256 ≡ v = omega arith in
+    rw same (set-put s at v h)
 
 -- ---- one row after another
 
