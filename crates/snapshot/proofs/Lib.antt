@@ -1,5 +1,6 @@
 -- The laws of the definitions in `specs/`, for callers to cite.
 pub mod Rows
+pub mod Writes
 pub mod Offsets
 pub mod Causes
 pub mod Rules

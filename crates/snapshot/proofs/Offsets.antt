@@ -47,9 +47,10 @@ decode-part s at = ap stateOf (unpack-here snapshotLayout s at) ∙ row-at s at
 abbrev pub eventRow : List ℕ → Event
 eventRow r = record { kind = getD r 0 0; sub = getD r 1 0; value = signed w32 (getD r 3 0) }
 
-pub event-part : (s : List ℕ) (at : ℕ) → eventOf (part s at eventSize) ≡ eventRow (numbersAt eventLayout s at 0)
+pub event-part : (s : List ℕ) (at : ℕ)
+    → eventOf (part s at eventSize) ≡ record { kind = numberAt s at 1; sub = numberAt s (at + 1) 1; value = signed w32 (numberAt s (at + 4) 4) }
 unfolding eventOf total
-event-part s at = ap eventRow (numbers-part eventLayout s at)
+event-part s at = ap eventRow (numbers-part eventLayout s at) ∙ simp add-zero
 
 pub zero-part : (s : List ℕ) (at : ℕ) → reservedZero (part s at eventSize) ≡ eqb (numberAt s (at + 2) 2) 0
 unfolding reservedZero total

@@ -1,0 +1,1 @@
+// Whether a snapshot is well formed.
