@@ -26,8 +26,11 @@ set-byte s at v h b =
     let same : v % 256 ≡ v = omega arith in
     rw same (set-put s at v h)
 
--- the bits of a signed number that was read from its bits
-pub bits-back : (w : Width) {z : ℤ} → SFits w z → unsigned w (signed w (unsigned w z)) ≡ unsigned w z
+-- the bits of a signed number as a callee is handed it: read from its bits
+abbrev pub handed : Width → ℤ → ℕ
+handed w z = unsigned w (signed w (unsigned w z))
+
+pub bits-back : (w : Width) {z : ℤ} → SFits w z → handed w z ≡ unsigned w z
 bits-back w f = ap (unsigned w) (signed-unsigned f)
 
 -- ---- numbers
@@ -73,9 +76,9 @@ pack-append (k ∷ ks) ls [] ws e = absurd (suc-ne-zero (length ks) (sym e))
 pack-append (k ∷ ks) ls (v ∷ vs) ws e =
     ap (λ (r : List ℕ). toBytes k v ++ r) (pack-append ks ls vs ws (suc-inj e)) ∙ sym (append-assoc (toBytes k v) (pack ks vs) (pack ls ws))
 
-pub put-rows : (ks ls vs ws s t u : List ℕ) (at : ℕ) → length vs ≡ length ks → at ≤ length s
-    → t ≡ put s at (pack ks vs) → u ≡ put t (at + total ks) (pack ls ws) → u ≡ put s at (pack (ks ++ ls) (vs ++ ws))
-put-rows ks ls vs ws s t u at e h first second =
+pub put-rows : (ks ls vs ws s t u : List ℕ) (at : ℕ) → at ≤ length s → t ≡ put s at (pack ks vs) → u ≡ put t (at + total ks) (pack ls ws)
+    → length vs ≡ length ks → u ≡ put s at (pack (ks ++ ls) (vs ++ ws))
+put-rows ks ls vs ws s t u at h first second e =
     second
     ∙ ap (λ (l : List ℕ). put l (at + total ks) (pack ls ws)) first
     ∙ ap (λ (n : ℕ). put (put s at (pack ks vs)) (at + n) (pack ls ws)) (sym (length-pack ks vs e))

@@ -1,5 +1,6 @@
 // A state in the 68 bytes of its snapshot.
-use crate::settings::{read_settings, write_settings};
+use crate::settings::read_settings;
+use crate::settings::write_settings;
 use counter::state::Counter;
 use word::bytes;
 ghost use mathlib.Core.Path.{_≡_};

@@ -6,4 +6,5 @@ pub mod settings;
 
 // The bytes of a snapshot, and of an event.
 pub const SNAPSHOT_SIZE: usize = 68;
+
 pub const EVENT_SIZE: usize = 12;

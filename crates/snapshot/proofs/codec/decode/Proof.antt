@@ -75,7 +75,7 @@ queued-requires : tie.Need-queued-requires
 queued-requires c κs = search needs
 
 returns : tie.Need-returns
-returns c = 
+returns c =
     let called = c .before .before .before in
     let numbers = called .before .before .before in
     let start = numbers .before .before .before .before .before .before in

@@ -1,55 +1,80 @@
+-- `snapshot::codec::encode` meets its contract: four rows side by side are one, the snapshot's.
 use borrow.Author.Needs.{needs}
+use mathlib.Core.Path.{_≡_, refl, ap, _∙_}
+use mathlib.Core.List.{List, [], _∷_, _++_}
+use Prim.Native.Nat.{ℕ, _+_, _≤_}
+use native.Mathlib.Omega.{arith}
+use lib.ListN.{length, getD}
+use denote.Ref.{now}
+use mir.Syntax.{w16, w32}
+use Rattle.word.specs.Part.{put}
+use Rattle.word.specs.TwosComplement.{signed, unsigned}
+use Rattle.word.specs.Layouts.{total, pack}
+use Rattle.counter.specs.declared.state.Counter.{Counter}
+use Rattle.counter.specs.WellFormed.{Typed}
+use Rattle.counter.proofs.Told.{counter-told}
+use Rattle.snapshot.specs.Widths.{settingsLayout, snapshotLayout}
+use Rattle.snapshot.specs.Snapshots.{settingsRow, encode}
+use Rattle.snapshot.proofs.Writes.{handed, bits-back, put-rows}
 use Rattle.snapshot.proofs.codec.encode.Statement.{statement}
 use Rattle.snapshot.proofs.codec.encode.Tie as tie
-use Rattle.snapshot.proofs.codec.encode.Reads as reads
-use Rattle.snapshot.proofs.codec.encode.Lts as lts
-use Rattle.snapshot.proofs.codec.write_causes.Reads as write-causes-reads
-use Rattle.snapshot.proofs.codec.write_words.Reads as write-words-reads
-use Rattle.snapshot.proofs.settings.write_settings.Reads as write-settings-reads
 
--- src/codec.rt:78:18
+-- what follows ACC
+abbrev other : Counter → List ℕ
+other v = v .out ∷ v .er ∷ v .flags ∷ v .levels ∷ v .running ∷ getD (v .waiting) 0 0 ∷ getD (v .waiting) 1 0 ∷ []
+
+rows : (v : Counter) → Typed v → (s t u w x : List ℕ) (at : ℕ) → at ≤ length s
+    → t ≡ put s at (pack settingsLayout (settingsRow (v .staged)))
+    → u ≡ put t (at + 26) (pack settingsLayout (settingsRow (v .active)))
+    → w ≡ put u (at + 52) (pack (4 ∷ 2 ∷ 2 ∷ 4 ∷ []) (handed w32 (v .acc) ∷ v .out ∷ v .er ∷ v .flags ∷ []))
+    → x ≡ put w (at + 64) (pack (1 ∷ 1 ∷ 1 ∷ 1 ∷ []) (v .levels ∷ v .running ∷ getD (v .waiting) 0 0 ∷ getD (v .waiting) 1 0 ∷ []))
+    → x ≡ put s at (encode v)
+unfolding total encode
+rows v f s t u w x at h first second third fourth =
+    put-rows _ _ _ _ s w x at h (put-rows _ _ _ _ s u w at h (put-rows _ _ _ _ s t u at h first second refl) third refl) fourth refl
+    ∙ ap (λ (n : ℕ). put s at (pack snapshotLayout (settingsRow (v .staged) ++ (settingsRow (v .active) ++ (n ∷ other v))))) (bits-back w32 (f .acc))
+
 add-active : tie.Need-add-active
 add-active c = search needs
 
--- src/codec.rt:79:17
 add-words : tie.Need-add-words
 add-words c = search needs
 
--- src/codec.rt:80:18
 add-causes : tie.Need-add-causes
 add-causes c = search needs
 
--- src/codec.rt:81:5
 write-settings-requires : tie.Need-write-settings-requires
 write-settings-requires c κs = search needs
 
--- src/codec.rt:82:5
 write-settings-requires-2 : tie.Need-write-settings-requires-2
 write-settings-requires-2 c κs = search needs
 
--- src/codec.rt:83:5
 write-words-requires : tie.Need-write-words-requires
 write-words-requires c κs = search needs
 
--- src/codec.rt:84:50
 array-read-write-causes : tie.Need-array-read-write-causes
 array-read-write-causes c = search needs
 
--- src/codec.rt:84:62
 array-read-write-causes-2 : tie.Need-array-read-write-causes-2
 array-read-write-causes-2 c = search needs
 
--- src/codec.rt:84:5
 write-causes-requires : tie.Need-write-causes-requires
 write-causes-requires c κs = search needs
 
--- src/codec.rt:73:1
 same-length : tie.Need-same-length
 same-length c = search needs
 
--- src/codec.rt:73:1
 returns : tie.Need-returns
-returns c = ?
+returns c =
+    let fourth = c .before .before in
+    let third = fourth .before .before .before .before in
+    let told = third .before in
+    let second = told .before .before .before .before in
+    let first = second .before .before .before .before in
+    let start = first .before .before .before .before in
+    let a = start .args in
+    rows (a .c) (counter-told (a .c) _ (told .struct-told .given)) (now (a .s)) _ _ _ _ (a .at) (omega (arith, start .pre)) (first .write-settings .ensures)
+    (second .write-settings2 .ensures) (third .write-words .ensures) (fourth .write-causes .ensures)
 
 pub encode-spec : {M : Type 1} → statement M
 encode-spec =

@@ -26,7 +26,7 @@ read-i32-requires : tie.Need-read-i32-requires
 read-i32-requires c κs = search needs
 
 returns : tie.Need-returns
-returns c = 
+returns c =
     let start = c .before .before .before .before in
     let s = now (start .args .s) in
     let at = start .args .at in

@@ -15,7 +15,7 @@ read-u16-requires : tie.Need-read-u16-requires
 read-u16-requires c κs = search needs
 
 returns : tie.Need-returns
-returns c = 
+returns c =
     let a = c .before .before .args in
     ap (λ (n : ℕ). eqb n 0) (c .read-u16 .ensures) ∙ sym (zero-part (now (a .s)) (a .at))
 

@@ -57,7 +57,7 @@ read-u16-requires-3 : tie.Need-read-u16-requires-3
 read-u16-requires-3 c κs = search needs
 
 returns : tie.Need-returns
-returns c = 
+returns c =
     let c8 = c .before in
     let c7 = c8 .before in
     let c6 = c7 .before in
