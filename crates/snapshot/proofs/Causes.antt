@@ -17,7 +17,7 @@ one-le n = le-leb 1 (suc n) (omega arith)
 pub causes-stand : (running first second : ℕ)
     → causesStand running first second
     ≡ (leb running 4 && queueFormed first second (queuedOf first second) && (eqb (queuedOf first second) 0 || not (eqb running 0)))
-unfolding causesStand queueFormed queuedOf
+unfolding queueFormed queuedOf
 causes-stand running zero zero = simp and-true
 causes-stand running zero (suc s) = simp (eqb·suc-zero, and-false)
 causes-stand running (suc f) zero = simp (eqb·suc-zero, one-le, and-true)

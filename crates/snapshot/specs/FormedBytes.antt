@@ -12,7 +12,7 @@ use Rattle.counter.specs.WellFormed.{isNone}
 use Rattle.snapshot.specs.Snapshots.{settingsAt}
 
 -- causes <= 4, second waiting only with a first, first only with one running
-unfoldable pub causesStand : ℕ → ℕ → ℕ → Bool
+abbrev pub causesStand : ℕ → ℕ → ℕ → Bool
 causesStand running first second =
     leb running 4
     && leb first 4
@@ -21,11 +21,11 @@ causesStand running first second =
     && (eqb first 0 || not (eqb running 0))
 
 -- ER <= 5, ED = 1 exactly if ER is not 0
-unfoldable pub errorStands : ℕ → ℕ → Bool
+abbrev pub errorStands : ℕ → ℕ → Bool
 errorStands er flags = leb er 5 && Bool·beq (bit flags ED) (not (eqb er 0))
 
 -- active passes rules 1-5 if loaded and is all 0 if not
-unfoldable pub activeStands : ℕ → Settings → Bool
+abbrev pub activeStands : ℕ → Settings → Bool
 activeStands flags s = cond (bit flags LOADED) (eqb (firstBroken s) 0) (isNone s)
 
 -- flag bits 20-31 zero, output bits 12-15 zero, levels <= 15; then the causes, ER, and the active settings

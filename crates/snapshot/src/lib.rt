@@ -1,7 +1,8 @@
 // Document 01's bytes: the snapshot of a state, and an event, read and written in a lent slice.
-pub mod check;
+
 pub mod codec;
 pub mod event;
+pub mod form;
 pub mod settings;
 
 // The bytes of a snapshot, and of an event.

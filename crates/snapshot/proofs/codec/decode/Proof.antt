@@ -8,7 +8,7 @@ use lib.ListN.{getD}
 use denote.Ref.{now}
 use Rattle.word.specs.LittleEndian.{numberAt}
 use Rattle.snapshot.specs.Snapshots.{queuedOf}
-use mir.Syntax.{w16, w32}
+use mir.Syntax.{w32}
 use Rattle.snapshot.proofs.Rows.{signed-told, number-byte}
 use Rattle.snapshot.proofs.Offsets.{decode-part}
 use Rattle.snapshot.proofs.codec.decode.Statement.{statement}

@@ -6,9 +6,8 @@ use Prim.Native.Nat.{ℕ, _+_, _≤_}
 use native.Mathlib.Omega.{arith}
 use lib.ListN.{length, getD}
 use denote.Ref.{now}
-use mir.Syntax.{w16, w32}
+use mir.Syntax.{w32}
 use Rattle.word.specs.Part.{put}
-use Rattle.word.specs.TwosComplement.{signed, unsigned}
 use Rattle.word.specs.Layouts.{total, pack}
 use Rattle.counter.specs.declared.state.Counter.{Counter}
 use Rattle.counter.specs.WellFormed.{Typed}

@@ -1,10 +1,10 @@
 -- `snapshot::event::read_event` meets its contract: kind and sub are single bytes, the value is read from its bits.
 use borrow.Author.Needs.{needs}
-use mathlib.Core.Path.{sym, _∙_}
+use mathlib.Core.Path.{sym}
 use Prim.Native.Nat.{_+_}
 use native.Mathlib.Omega.{arith}
 use denote.Ref.{now}
-use mir.Syntax.{w16, w32}
+use mir.Syntax.{w32}
 use Rattle.snapshot.proofs.Rows.{signed-told, number-byte}
 use Rattle.snapshot.proofs.Offsets.{event-part}
 use Rattle.snapshot.proofs.event.read_event.Statement.{statement}

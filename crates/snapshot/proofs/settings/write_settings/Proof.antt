@@ -8,7 +8,6 @@ use native.Mathlib.Omega.{arith}
 use denote.Ref.{now}
 use mir.Syntax.{w16, w32}
 use Rattle.word.specs.Part.{put}
-use Rattle.word.specs.TwosComplement.{signed, unsigned}
 use Rattle.word.specs.Layouts.{total, pack}
 use Rattle.counter.specs.declared.state.Settings.{Settings}
 use Rattle.counter.specs.WellFormed.{SettingsTyped}

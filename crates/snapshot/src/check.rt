@@ -1,1 +1,0 @@
-// Whether a snapshot is well formed.
