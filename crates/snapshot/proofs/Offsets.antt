@@ -19,16 +19,16 @@ use Rattle.snapshot.proofs.Rows.{numbersAt, unpack-from, unpack-here, n
 -- 0-25 staged; 26-51 active; 52-55 ACC; 56-57 outputs; 58-59 ER; 60-63 flags; 64 levels; 65 running; 66, 67 waiting.
 -- Kind at byte 0, sub at 1, zero at 2-3, value at 4-7, stamp at 8-11.
 pub record Places : Type 0 where
-  pub snapshot-is : total snapshotLayout ≡ snapshotSize
-  pub event-is : total eventLayout ≡ eventSize
-  pub settings-is : spans settingsLayout 0 ≡ (0, 1) ∷ (2, 3) ∷ (4, 7) ∷ (8, 11) ∷ (12, 15) ∷ (16, 19) ∷ (20, 21) ∷ (22, 23) ∷ (24, 25) ∷ []
+  pub snapshot-size : total snapshotLayout ≡ snapshotSize
+  pub event-size : total eventLayout ≡ eventSize
+  pub settings-at : spans settingsLayout 0 ≡ (0, 1) ∷ (2, 3) ∷ (4, 7) ∷ (8, 11) ∷ (12, 15) ∷ (16, 19) ∷ (20, 21) ∷ (22, 23) ∷ (24, 25) ∷ []
   pub snapshot-at : spans (total settingsLayout ∷ total settingsLayout ∷ otherLayout) 0
       ≡ (0, 25) ∷ (26, 51) ∷ (52, 55) ∷ (56, 57) ∷ (58, 59) ∷ (60, 63) ∷ (64, 64) ∷ (65, 65) ∷ (66, 66) ∷ (67, 67) ∷ []
   pub event-at : spans eventLayout 0 ≡ (0, 0) ∷ (1, 1) ∷ (2, 3) ∷ (4, 7) ∷ (8, 11) ∷ []
 
 pub places : Places
 unfolding total spans
-places = record { snapshot-is = refl; event-is = refl; settings-is = refl; snapshot-at = refl; event-at = refl }
+places = record { snapshot-size = refl; event-size = refl; settings-at = refl; snapshot-at = refl; event-at = refl }
 
 -- the state that a row of the layout's numbers gives is the one at document 01's places
 row-at : (s : List ℕ) (at : ℕ) → stateOf (numbersAt snapshotLayout s at 0) ≡ stateAt s at

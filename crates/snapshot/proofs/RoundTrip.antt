@@ -5,7 +5,7 @@ use mathlib.Core.Bool.{true}
 use mathlib.Core.List.{List, [], _∷_, _++_}
 use Prim.Native.Nat.{ℕ, _+_, _^_, _<_, _≤_}
 use native.Mathlib.Omega.{arith}
-use lib.ListN.{length, getD}
+use lib.ListN.{length, getD, drop}
 use mir.Syntax.{w16, w32}
 use mir.Val.{Fits}
 use Rattle.word.specs.Part.{Bytes}
@@ -102,7 +102,7 @@ module _ (b : List ℕ) (h : Bytes b) where
 
   settings-row : (at : ℕ) → at + settingsSize ≤ length b
       → settingsRow (settingsAt b at)
-      ≡ numberAt b at 2 ∷ numberAt b (at + 2) 2 ∷ numberAt b (at + 4) 4 ∷ numberAt b (at + 8) 4 ∷ numberAt b (at + 12) 4 ∷ numberAt b (at + 16) 4 ∷ numberAt b (at + 20) 2 ∷ numberAt b (at + 22) 2 ∷ numberAt b (at + 24) 2 ∷ []
+      ≡ numberAt b at 2 ∷ numbersAt (drop 1 settingsLayout) b at 2
   settings-row at e =
       λ i. unsigned-signed (short at (omega arith)) i
       ∷ unsigned-signed (short (at + 2) (omega arith)) i
@@ -110,16 +110,13 @@ module _ (b : List ℕ) (h : Bytes b) where
       ∷ unsigned-signed (long (at + 8) (omega arith)) i
       ∷ unsigned-signed (long (at + 12) (omega arith)) i
       ∷ unsigned-signed (long (at + 16) (omega arith)) i
-      ∷ numberAt b (at + 20) 2
-      ∷ numberAt b (at + 22) 2
-      ∷ numberAt b (at + 24) 2
-      ∷ []
+      ∷ numbersAt (drop 6 settingsLayout) b at 20
 
   row-places : length b ≡ snapshotSize → rowOf (stateAt b 0) ≡ numbersAt snapshotLayout b 0 0
   row-places e =
       λ i. settings-row 0 (omega arith) i
       ++ (settings-row 26 (omega arith) i
-      ++ (unsigned-signed (long 52 (omega arith)) i ∷ numbersAt (2 ∷ 2 ∷ 4 ∷ 1 ∷ 1 ∷ 1 ∷ 1 ∷ []) b 0 56))
+      ++ (unsigned-signed (long 52 (omega arith)) i ∷ numbersAt (drop 1 otherLayout) b 0 56))
 
 -- ---- bytes are written back from the state that they hold
 

@@ -16,7 +16,7 @@ use Rattle.snapshot.specs.FormedBytes.{causesStand, errorStands, activeS
 use Rattle.snapshot.proofs.Offsets.{decode-places, decode-part}
 use Rattle.snapshot.proofs.Causes.{causes-stand, Told, queue-told}
 
--- the rules that a good state's numbers meet
+-- tests that hold together hold each
 each : (a b c d e f : Bool) → (a && b && c && d && e && f) ≡ true → (a ≡ true) × (b ≡ true) × (c ≡ true) × (d ≡ true) × (e ≡ true) × (f ≡ true)
 each true true true true true f h = (refl, refl, refl, refl, refl, h)
 each true true true true false f h = absurd (false≢true h)
@@ -25,6 +25,7 @@ each true true false d e f h = absurd (false≢true h)
 each true false c d e f h = absurd (false≢true h)
 each false b c d e f h = absurd (false≢true h)
 
+-- what well formed says of a state's numbers
 pub record Bounded (c : Counter) : Type 0 where
   pub flags : c .flags < 2 ^ 20
   pub out : c .out < 2 ^ 12

@@ -32,6 +32,8 @@ pub fn decode(s: &[u8], at: usize) -> Counter
     requires { ⌜ at + snapshotSize ≤ length (now s) ⌝ }
     ensures { λ r. ⌜ r ≡ decode (part (now (s .entry)) at snapshotSize) ⌝ }
 {
+    let levels = s[at + 64];
+    let running = s[at + 65];
     let first = s[at + 66];
     let second = s[at + 67];
     Counter {
@@ -41,8 +43,8 @@ pub fn decode(s: &[u8], at: usize) -> Counter
         out: bytes::read_u16(s, at + 56),
         er: bytes::read_u16(s, at + 58),
         flags: bytes::read_u32(s, at + 60),
-        levels: s[at + 64],
-        running: s[at + 65],
+        levels,
+        running,
         waiting: [first, second],
         queued: queued(first, second),
     }

@@ -17,6 +17,12 @@ const ED: u32 = 4;
 
 const LOADED: u32 = 19;
 
+// Below this, flag bits 20-31 are zero.
+const FLAGS_END: u32 = 0x10_0000;
+
+// Below this, output bits 12-15 are zero.
+const OUTPUTS_END: u16 = 0x1000;
+
 // Each cause is 4 at most, a second waits only with a first, a first only with one running.
 fn causes_stand(running: u8, first: u8, second: u8) -> bool
     ensures { λ r. ⌜ r ≡ causesStand running first second ⌝ }
@@ -70,8 +76,8 @@ pub fn formed(s: &[u8], at: usize) -> bool
     let out = bytes::read_u16(s, at + 56);
     let er = bytes::read_u16(s, at + 58);
     let active = read_settings(s, at + 26);
-    (flags < 1048576)
-        & (out < 4096)
+    (flags < FLAGS_END)
+        & (out < OUTPUTS_END)
         & (s[at + 64] <= 15)
         & causes_stand(s[at + 65], s[at + 66], s[at + 67])
         & error_stands(er, flags)

@@ -12,6 +12,7 @@ ghost use Rattle.word.specs.Layouts.{pack};
 ghost use Rattle.snapshot.specs.Widths.{settingsSize, settingsLayout};
 ghost use Rattle.snapshot.specs.Snapshots.{settingsAt, settingsRow};
 
+// The settings from place at.
 pub fn read_settings(s: &[u8], at: usize) -> Settings
     requires { ⌜ at + settingsSize ≤ length (now s) ⌝ }
     ensures { λ r. ⌜ r ≡ settingsAt (now (s .entry)) at ⌝ }
@@ -59,6 +60,7 @@ fn write_outputs(s: &mut [u8], at: usize, omb: u16, hpo: u16, lpo: u16)
     bytes::write_u16(s, at + 4, lpo);
 }
 
+// Writes the settings from place at.
 pub fn write_settings(v: Settings, s: &mut [u8], at: usize)
     requires { ⌜ at + settingsSize ≤ length (now s) ⌝ }
     ensures { λ _. ⌜ now (s .exit) ≡ put (now (s .entry)) at (pack settingsLayout (settingsRow v)) ⌝ }

@@ -1,16 +1,16 @@
 -- `snapshot::form::formed` meets its contract: each number is read at its place, and the tests are the definition's.
 use borrow.Author.Needs.{needs}
-use mathlib.Core.Path.{_≡_, sym, _∙_}
+use mathlib.Core.Path.{_≡_, _∙_}
 use mathlib.Core.Bool.{_&&_}
-use Prim.Native.Nat.{ℕ, _+_, _^_, _<_}
+use Prim.Native.Nat.{_+_, _^_}
 use native.Mathlib.Omega.{arith}
 use lib.Dec.{ltb, leb}
-use lib.ListN.{getD}
 use denote.Ref.{now}
 use Rattle.word.specs.LittleEndian.{numberAt}
+use Rattle.snapshot.specs.Widths.{snapshotSize}
 use Rattle.snapshot.specs.Snapshots.{settingsAt}
 use Rattle.snapshot.specs.FormedBytes.{causesStand, errorStands, activeStands}
-use Rattle.snapshot.proofs.Rows.{number-byte}
+use Rattle.snapshot.proofs.Rows.{byte-at}
 use Rattle.snapshot.proofs.Rules.{formed-part}
 use Rattle.snapshot.proofs.form.formed.Statement.{statement}
 use Rattle.snapshot.proofs.form.formed.Tie as tie
@@ -82,7 +82,7 @@ returns c =
     let start = flags .before .before in
     let s = now (start .args .s) in
     let at = start .args .at in
-    let byte : (k : ℕ) → k < 68 → getD s (at + k) 0 ≡ numberAt s (at + k) 1 = λ k h. sym (number-byte s (at + k) (omega (arith, start .pre))) in
+    let byte = byte-at s at snapshotSize (start .pre) in
     let causes-stand : causes .causes-stand .result ≡ causesStand (numberAt s (at + 65) 1) (numberAt s (at + 66) 1) (numberAt s (at + 67) 1) =
     causes .causes-stand .ensures ∙ (λ i. causesStand (byte 65 (omega arith) i) (byte 66 (omega arith) i) (byte 67 (omega arith) i)) in
     let error-stands : c .before .error-stands .result ≡ errorStands (numberAt s (at + 58) 2) (numberAt s (at + 60) 4) =
