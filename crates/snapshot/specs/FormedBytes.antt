@@ -28,7 +28,8 @@ errorStands er flags = leb er 5 && Bool·beq (bit flags ED) (not (eqb er 0))
 abbrev pub activeStands : ℕ → Settings → Bool
 activeStands flags s = cond (bit flags LOADED) (eqb (firstBroken s) 0) (isNone s)
 
--- flag bits 20-31 zero, output bits 12-15 zero, levels <= 15; then the causes, ER, and the active settings
+-- Flag bits 20-31 zero, output bits 12-15 zero, levels <= 15; then the causes, ER, and the active settings.
+-- Active at 26-51, outputs at 56-57, ER at 58-59, flags at 60-63, levels at 64, running at 65, waiting at 66 and 67.
 unfoldable pub formed : List ℕ → Bool
 formed b =
     ltb (numberAt b 60 4) (2 ^ 20)
