@@ -1,0 +1,8 @@
+-- The laws of the definitions in `specs/`, for callers to cite.
+pub mod Rows
+pub mod Writes
+pub mod Offsets
+pub mod Causes
+pub mod Rules
+pub mod RoundTrip
+pub mod Stamp

@@ -1,0 +1,116 @@
+-- Document 01, "Snapshot, 68 bytes": a state as a row of numbers, the row's bytes, and back. A signed number stands by its bits.
+use mathlib.Core.Bool.{cond}
+use mathlib.Core.List.{List, [], _∷_, _++_}
+use Prim.Native.Nat.{ℕ, _+_}
+use lib.Dec.{eqb}
+use lib.ListN.{getD, drop}
+use mir.Syntax.{w16, w32}
+use Rattle.word.specs.LittleEndian.{numberAt}
+use Rattle.word.specs.TwosComplement.{signed, unsigned}
+use Rattle.word.specs.Layouts.{pack, unpack}
+use Rattle.counter.specs.declared.state.Settings.{Settings}
+use Rattle.counter.specs.declared.state.Counter.{Counter}
+use Rattle.snapshot.specs.Widths.{snapshotLayout}
+
+-- ---- from a state to bytes
+
+abbrev pub settingsRow : Settings → List ℕ
+settingsRow s =
+    unsigned w16 (s .pfn)
+    ∷ unsigned w16 (s .mode)
+    ∷ unsigned w32 (s .hip)
+    ∷ unsigned w32 (s .lop)
+    ∷ unsigned w32 (s .ovf)
+    ∷ unsigned w32 (s .unf)
+    ∷ s .omb
+    ∷ s .hpo
+    ∷ s .lpo
+    ∷ []
+
+abbrev pub otherRow : Counter → List ℕ
+otherRow c =
+    unsigned w32 (c .acc)
+    ∷ c .out
+    ∷ c .er
+    ∷ c .flags
+    ∷ c .levels
+    ∷ c .running
+    ∷ getD (c .waiting) 0 0
+    ∷ getD (c .waiting) 1 0
+    ∷ []
+
+abbrev pub rowOf : Counter → List ℕ
+rowOf c = settingsRow (c .staged) ++ (settingsRow (c .active) ++ otherRow c)
+
+unfoldable pub encode : Counter → List ℕ
+encode c = pack snapshotLayout (rowOf c)
+
+-- ---- from bytes to a state
+
+-- the settings in the first nine numbers of a row
+abbrev pub settingsOf : List ℕ → Settings
+settingsOf r =
+    record {
+      pfn = signed w16 (getD r 0 0);
+      mode = signed w16 (getD r 1 0);
+      hip = signed w32 (getD r 2 0);
+      lop = signed w32 (getD r 3 0);
+      ovf = signed w32 (getD r 4 0);
+      unf = signed w32 (getD r 5 0);
+      omb = getD r 6 0;
+      hpo = getD r 7 0;
+      lpo = getD r 8 0;
+    }
+
+-- how many wait, by the two waiting causes: 0 is none
+unfoldable pub queuedOf : ℕ → ℕ → ℕ
+queuedOf first second = cond (eqb first 0) 0 (cond (eqb second 0) 1 2)
+
+abbrev pub stateOf : List ℕ → Counter
+stateOf r =
+    record {
+      staged = settingsOf r;
+      active = settingsOf (drop 9 r);
+      acc = signed w32 (getD r 18 0);
+      out = getD r 19 0;
+      er = getD r 20 0;
+      flags = getD r 21 0;
+      levels = getD r 22 0;
+      running = getD r 23 0;
+      waiting = getD r 24 0 ∷ getD r 25 0 ∷ [];
+      queued = queuedOf (getD r 24 0) (getD r 25 0);
+    }
+
+unfoldable pub decode : List ℕ → Counter
+decode b = stateOf (unpack snapshotLayout b)
+
+-- ---- the same by document 01's places: what stands in a list of bytes from place at
+
+abbrev pub settingsAt : List ℕ → ℕ → Settings
+settingsAt s at =
+    record {
+      pfn = signed w16 (numberAt s at 2);
+      mode = signed w16 (numberAt s (at + 2) 2);
+      hip = signed w32 (numberAt s (at + 4) 4);
+      lop = signed w32 (numberAt s (at + 8) 4);
+      ovf = signed w32 (numberAt s (at + 12) 4);
+      unf = signed w32 (numberAt s (at + 16) 4);
+      omb = numberAt s (at + 20) 2;
+      hpo = numberAt s (at + 22) 2;
+      lpo = numberAt s (at + 24) 2;
+    }
+
+abbrev pub stateAt : List ℕ → ℕ → Counter
+stateAt s at =
+    record {
+      staged = settingsAt s at;
+      active = settingsAt s (at + 26);
+      acc = signed w32 (numberAt s (at + 52) 4);
+      out = numberAt s (at + 56) 2;
+      er = numberAt s (at + 58) 2;
+      flags = numberAt s (at + 60) 4;
+      levels = numberAt s (at + 64) 1;
+      running = numberAt s (at + 65) 1;
+      waiting = numberAt s (at + 66) 1 ∷ numberAt s (at + 67) 1 ∷ [];
+      queued = queuedOf (numberAt s (at + 66) 1) (numberAt s (at + 67) 1);
+    }

@@ -1,0 +1,88 @@
+// A state in the 68 bytes of its snapshot.
+use crate::settings::read_settings;
+use crate::settings::write_settings;
+use counter::state::Counter;
+use word::bytes;
+ghost use mathlib.Core.Path.{_≡_};
+ghost use mathlib.Core.List.{[], _∷_};
+ghost use Prim.Native.Nat.{_+_, _≤_};
+ghost use lib.ListN.{length};
+ghost use mir.Syntax.{w32};
+ghost use Rattle.word.specs.Part.{part, put};
+ghost use Rattle.word.specs.TwosComplement.{unsigned};
+ghost use Rattle.word.specs.Layouts.{pack};
+ghost use Rattle.snapshot.specs.Widths.{snapshotSize};
+ghost use Rattle.snapshot.specs.Snapshots.{queuedOf, encode, decode};
+
+// How many causes wait, by the two waiting bytes.
+fn queued(first: u8, second: u8) -> u8
+    ensures { λ r. ⌜ r ≡ queuedOf first second ⌝ }
+{
+    if first == 0 {
+        0
+    } else if second == 0 {
+        1
+    } else {
+        2
+    }
+}
+
+// The state in the snapshot from place at.
+pub fn decode(s: &[u8], at: usize) -> Counter
+    requires { ⌜ at + snapshotSize ≤ length (now s) ⌝ }
+    ensures { λ r. ⌜ r ≡ decode (part (now (s .entry)) at snapshotSize) ⌝ }
+{
+    let levels = s[at + 64];
+    let running = s[at + 65];
+    let first = s[at + 66];
+    let second = s[at + 67];
+    Counter {
+        staged: read_settings(s, at),
+        active: read_settings(s, at + 26),
+        acc: bytes::read_i32(s, at + 52),
+        out: bytes::read_u16(s, at + 56),
+        er: bytes::read_u16(s, at + 58),
+        flags: bytes::read_u32(s, at + 60),
+        levels,
+        running,
+        waiting: [first, second],
+        queued: queued(first, second),
+    }
+}
+
+// Writes ACC, the outputs, ER and the flags.
+fn write_words(s: &mut [u8], at: usize, acc: i32, out: u16, er: u16, flags: u32)
+    requires { ⌜ at + 12 ≤ length (now s) ⌝ }
+    ensures { λ _. ⌜ now (s .exit) ≡ put (now (s .entry)) at (pack (4 ∷ 2 ∷ 2 ∷ 4 ∷ []) (unsigned w32 acc ∷ out ∷ er ∷ flags ∷ [])) ⌝ }
+{
+    bytes::write_i32(s, at, acc);
+    bytes::write_u16(s, at + 4, out);
+    bytes::write_u16(s, at + 6, er);
+    bytes::write_u32(s, at + 8, flags);
+}
+
+// Writes the levels, the running cause and the two waiting ones.
+fn write_causes(s: &mut [u8], at: usize, levels: u8, running: u8, first: u8, second: u8)
+    requires { ⌜ at + 4 ≤ length (now s) ⌝ }
+    ensures { λ _. ⌜ now (s .exit) ≡ put (now (s .entry)) at (pack (1 ∷ 1 ∷ 1 ∷ 1 ∷ []) (levels ∷ running ∷ first ∷ second ∷ [])) ⌝ }
+{
+    s[at] = levels;
+    s[at + 1] = running;
+    s[at + 2] = first;
+    s[at + 3] = second;
+}
+
+// Writes the state's snapshot from place at.
+pub fn encode(c: Counter, s: &mut [u8], at: usize)
+    requires { ⌜ at + snapshotSize ≤ length (now s) ⌝ }
+    ensures { λ _. ⌜ now (s .exit) ≡ put (now (s .entry)) at (encode c) ⌝ }
+{
+    let waiting = c.waiting;
+    let active = at + 26;
+    let words = at + 52;
+    let causes = at + 64;
+    write_settings(c.staged, s, at);
+    write_settings(c.active, s, active);
+    write_words(s, words, c.acc, c.out, c.er, c.flags);
+    write_causes(s, causes, c.levels, c.running, waiting[0], waiting[1]);
+}

@@ -1,0 +1,11 @@
+// Document 01's bytes: the snapshot of a state, and an event, read and written in a lent slice.
+pub mod codec;
+pub mod event;
+pub mod form;
+pub mod settings;
+
+// The bytes of a snapshot.
+pub const SNAPSHOT_SIZE: usize = 68;
+
+// The bytes of an event.
+pub const EVENT_SIZE: usize = 12;
