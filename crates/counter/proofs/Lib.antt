@@ -1,4 +1,5 @@
 -- What code knows of a counter, and the laws of the definitions in `specs/`.
+pub mod Bench
 pub mod Changes
 pub mod Exact
 pub mod Flags

@@ -6,3 +6,4 @@ pub mod Events
 pub mod Sample
 pub mod Interrupts
 pub mod WellFormed
+pub mod Bench

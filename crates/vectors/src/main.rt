@@ -1,8 +1,10 @@
-// Runs outside values through the library and prints what it found. The bytes beside each value were worked out by hand from the
+// Runs outside values through the library and prints what it found. The bytes beside a value were worked out by hand from the
 // definitions of little endian and two's complement; `ok` says that writing gives them, that nothing beside them changed, and that
-// reading gives the value back.
+// reading gives the value back. A load's `ok` says that the rule broken first is document 01's.
+mod loads;
 mod words;
 
 fn main() {
     words::run();
+    loads::run();
 }

@@ -11,7 +11,7 @@ fn wide(b: u8) -> u64 {
     b as u64
 }
 
-fn verdict(ok: bool) {
+pub fn verdict(ok: bool) {
     if ok {
         io::write_all(STDOUT_FILENO, b" ok\n");
     } else {

@@ -1,0 +1,13 @@
+-- The bench table holds, row by row: the definitions compute each.
+use mathlib.Core.Path.{_≡_, refl}
+use mathlib.Core.Bool.{true}
+use lib.ListN.{replicate}
+use Rattle.word.specs.Masks.{bit, setBit, clearBit, merge}
+use Rattle.counter.specs.Parts.{fresh, modeOf}
+use Rattle.counter.specs.Interrupts.{presetWord, causeWord, masked, enabled, quiet, started, post, finish, raise}
+use Rattle.counter.specs.Sample.{up, down, upFlags, downFlags, countUp, countDown, count}
+use Rattle.counter.specs.Bench.{bench}
+
+pub bench-holds : bench ≡ replicate 12 true
+unfolding bench fresh modeOf bit setBit clearBit merge presetWord causeWord masked enabled quiet started post finish raise up down upFlags downFlags countUp countDown count
+bench-holds = refl
