@@ -1,4 +1,5 @@
 // Causes: which become interrupts, and the running and waiting ones.
+use super::flag;
 use super::outputs;
 use super::state::Counter;
 use word::bits;
@@ -7,37 +8,15 @@ ghost use Prim.Native.Nat.{_<_};
 ghost use Rattle.counter.specs.Parts.{UIL, on};
 ghost use Rattle.counter.specs.Interrupts.{masked, enabled, quiet, started, starting, waiting, resting, advancing, post, finish, withOutputs, raise};
 
-const UIE: u32 = 0;
-
-const UIL: u32 = 1;
-
-const FE: u32 = 2;
-
-const LPM: u32 = 7;
-
-const HPM: u32 = 8;
-
-const UFM: u32 = 9;
-
-const OFM: u32 = 10;
-
-const LPI: u32 = 11;
-
-const HPI: u32 = 12;
-
-const UFI: u32 = 13;
-
-const OFI: u32 = 14;
-
 // The cause's mask.
 fn masked(flags: u32, cause: u8) -> bool
     ensures { λ r. ⌜ r ≡ masked flags cause ⌝ }
 {
     match cause {
-        1 => bits::has(flags, LPM),
-        2 => bits::has(flags, HPM),
-        3 => bits::has(flags, UFM),
-        4 => bits::has(flags, OFM),
+        1 => bits::has(flags, flag::LPM),
+        2 => bits::has(flags, flag::HPM),
+        3 => bits::has(flags, flag::UFM),
+        4 => bits::has(flags, flag::OFM),
         _ => false,
     }
 }
@@ -46,7 +25,7 @@ fn masked(flags: u32, cause: u8) -> bool
 fn enabled(flags: u32, cause: u8) -> bool
     ensures { λ r. ⌜ r ≡ enabled flags cause ⌝ }
 {
-    bits::has(flags, FE) & bits::has(flags, UIE) & masked(flags, cause)
+    bits::has(flags, flag::FE) & bits::has(flags, flag::UIE) & masked(flags, cause)
 }
 
 // LPI, HPI, UFI and OFI at 0.
@@ -54,8 +33,11 @@ pub fn quiet(flags: u32) -> u32
     ensures { λ r. ⌜ r ≡ quiet flags ⌝ }
 {
     bits::clear(
-        bits::clear(bits::clear(bits::clear(flags, LPI), HPI), UFI),
-        OFI,
+        bits::clear(
+            bits::clear(bits::clear(flags, flag::LPI), flag::HPI),
+            flag::UFI,
+        ),
+        flag::OFI,
     )
 }
 
@@ -65,10 +47,10 @@ fn started(cause: u8, flags: u32) -> u32
 {
     let none = quiet(flags);
     match cause {
-        1 => bits::set(none, LPI),
-        2 => bits::set(none, HPI),
-        3 => bits::set(none, UFI),
-        4 => bits::set(none, OFI),
+        1 => bits::set(none, flag::LPI),
+        2 => bits::set(none, flag::HPI),
+        3 => bits::set(none, flag::UFI),
+        4 => bits::set(none, flag::OFI),
         _ => none,
     }
 }
@@ -100,7 +82,7 @@ fn lose(c: Counter) -> Counter
     ensures { λ r. ⌜ r ≡ on UIL c ⌝ }
 {
     let mut d = c;
-    d.flags = bits::set(c.flags, UIL);
+    d.flags = bits::set(c.flags, flag::UIL);
     d
 }
 

@@ -1,16 +1,9 @@
 // One count: ACC and the cause, and the flags that it sets.
+use super::flag;
 use super::state::Counted;
 use word::bits;
 ghost use mathlib.Core.Path.{_≡_};
 ghost use Rattle.counter.specs.Sample.{up, down, upFlags, downFlags};
-
-const DIR: u32 = 15;
-
-const UF: u32 = 16;
-
-const OF: u32 = 17;
-
-const MD: u32 = 18;
 
 // A count up. In modes 0 and 1 (`single`) ACC goes on from 0.
 pub fn up(single: bool, acc: i32, hip: i32, ovf: i32, unf: i32) -> Counted
@@ -68,12 +61,12 @@ pub fn down(acc: i32, lop: i32, ovf: i32, unf: i32) -> Counted
 pub fn up_flags(single: bool, cause: u8, flags: u32) -> u32
     ensures { λ r. ⌜ r ≡ upFlags single cause flags ⌝ }
 {
-    let counted = bits::set(flags, DIR);
+    let counted = bits::set(flags, flag::DIR);
     if cause == 4 {
-        bits::set(counted, OF)
+        bits::set(counted, flag::OF)
     } else {
         if (cause == 2) & single {
-            bits::set(counted, MD)
+            bits::set(counted, flag::MD)
         } else {
             counted
         }
@@ -84,9 +77,9 @@ pub fn up_flags(single: bool, cause: u8, flags: u32) -> u32
 pub fn down_flags(cause: u8, flags: u32) -> u32
     ensures { λ r. ⌜ r ≡ downFlags cause flags ⌝ }
 {
-    let counted = bits::clear(flags, DIR);
+    let counted = bits::clear(flags, flag::DIR);
     if cause == 3 {
-        bits::set(counted, UF)
+        bits::set(counted, flag::UF)
     } else {
         counted
     }

@@ -1,4 +1,5 @@
 // Loading settings, whole or the presets alone.
+use super::flag;
 use super::rules;
 use super::state::Counter;
 use super::state::Settings;
@@ -6,17 +7,13 @@ use word::bits;
 ghost use mathlib.Core.Path.{_≡_};
 ghost use Rattle.counter.specs.Loading.{withoutError, accepted, rejected, load, withPresets, hslBroken, presetAccepted, presetLoad};
 
-const ED: u32 = 4;
-
-const LOADED: u32 = 19;
-
 // ED 0, ER 0.
 fn without_error(c: Counter) -> Counter
     ensures { λ r. ⌜ r ≡ withoutError c ⌝ }
 {
     let mut d = c;
     d.er = 0;
-    d.flags = bits::clear(c.flags, ED);
+    d.flags = bits::clear(c.flags, flag::ED);
     d
 }
 
@@ -27,7 +24,7 @@ pub fn accept(c: Counter) -> Counter
     let s = c.staged;
     let mut d = c;
     d.active = s;
-    d.flags = bits::set(c.flags, LOADED);
+    d.flags = bits::set(c.flags, flag::LOADED);
     without_error(d)
 }
 
@@ -37,7 +34,7 @@ pub fn reject(c: Counter, n: u16) -> Counter
 {
     let mut d = c;
     d.er = n;
-    d.flags = bits::set(c.flags, ED);
+    d.flags = bits::set(c.flags, flag::ED);
     d
 }
 
@@ -90,7 +87,7 @@ pub fn preset_load(c: Counter) -> Counter
 {
     let s = c.staged;
     let a = c.active;
-    if bits::has(c.flags, LOADED) {
+    if bits::has(c.flags, flag::LOADED) {
         let broken = presets_broken(s, a);
         if broken == 0 {
             accept_presets(c)

@@ -1,13 +1,10 @@
 // The bits shown but not stored.
+use super::flag;
 use super::rules;
 use super::state::Counter;
 use word::bits;
 ghost use mathlib.Core.Path.{_≡_};
 ghost use Rattle.counter.specs.Shown.{uix, uip, cu, twoWay, cd, hpr, lpr};
-
-const CE: u32 = 5;
-
-const LOADED: u32 = 19;
 
 // A cause runs.
 pub fn uix(c: Counter) -> bool
@@ -26,7 +23,7 @@ pub fn uip(c: Counter) -> bool
 pub fn cu(c: Counter) -> bool
     ensures { λ r. ⌜ r ≡ cu c ⌝ }
 {
-    bits::has(c.flags, CE)
+    bits::has(c.flags, flag::CE)
 }
 
 // A mode of 2 to 7 is loaded.
@@ -34,20 +31,20 @@ fn two_way(c: Counter) -> bool
     ensures { λ r. ⌜ r ≡ twoWay c ⌝ }
 {
     let a = c.active;
-    bits::has(c.flags, LOADED) & !rules::up_only(rules::mode_of(a.mode))
+    bits::has(c.flags, flag::LOADED) & !rules::up_only(rules::mode_of(a.mode))
 }
 
 pub fn cd(c: Counter) -> bool
     ensures { λ r. ⌜ r ≡ cd c ⌝ }
 {
-    bits::has(c.flags, CE) & two_way(c)
+    bits::has(c.flags, flag::CE) & two_way(c)
 }
 
 pub fn hpr(c: Counter) -> bool
     ensures { λ r. ⌜ r ≡ hpr c ⌝ }
 {
     let a = c.active;
-    bits::has(c.flags, LOADED) & (a.hip <= c.acc)
+    bits::has(c.flags, flag::LOADED) & (a.hip <= c.acc)
 }
 
 pub fn lpr(c: Counter) -> bool

@@ -1,6 +1,7 @@
 // One input sample over a whole counter: reset, hold, and the count that the mode asks for.
 use super::causes;
 use super::counting;
+use super::flag;
 use super::inputs;
 use super::rules;
 use super::state::Count;
@@ -9,10 +10,6 @@ use word::bits;
 ghost use mathlib.Core.Path.{_≡_};
 ghost use Rattle.counter.specs.Parts.{withLevels};
 ghost use Rattle.counter.specs.Sample.{countUp, countDown, count, counting, resets, reset, sample};
-
-const CE: u32 = 5;
-
-const LOADED: u32 = 19;
 
 fn count_up(c: Counter) -> Counter
     ensures { λ r. ⌜ r ≡ countUp c ⌝ }
@@ -58,7 +55,7 @@ fn resets(c: Counter, m: u8, new: u8) -> bool
 fn may_count(c: Counter, m: u8, new: u8) -> bool
     ensures { λ r. ⌜ r ≡ counting m (c .flags) new ⌝ }
 {
-    bits::has(c.flags, CE) & !(inputs::has_reset(m) & inputs::is_on(new, 3))
+    bits::has(c.flags, flag::CE) & !(inputs::has_reset(m) & inputs::is_on(new, 3))
 }
 
 fn with_levels(c: Counter, new: u8) -> Counter
@@ -85,7 +82,7 @@ pub fn sample(c: Counter, new: u8) -> Counter
     let a = c.active;
     let m = rules::mode_of(a.mode);
     let d = with_levels(c, new);
-    if bits::has(c.flags, LOADED) {
+    if bits::has(c.flags, flag::LOADED) {
         if resets(c, m, new) {
             reset(c, new)
         } else {

@@ -1,5 +1,6 @@
 // The step of each kind of event, and the step.
 use super::causes;
+use super::flag;
 use super::legality;
 use super::loading;
 use super::outputs;
@@ -15,12 +16,6 @@ ghost use Prim.Native.Nat.{_<_};
 ghost use Rattle.counter.specs.Parts.{withAcc, on, SP, FE};
 ghost use Rattle.counter.specs.Loading.{load};
 ghost use Rattle.counter.specs.Events.{legal, levelsOf, wordOf, shortOf, staged, stagedWrite, device, setTo, deviceWrite, spRises, flagWrite, emptied, autoStart, enterRun, outputWrite, apply, step};
-
-const FE: u32 = 2;
-
-const AS: u32 = 3;
-
-const SP: u32 = 6;
 
 fn levels_of(v: i32) -> u8
     ensures { λ r. ⌜ r ≡ levelsOf v ⌝ }
@@ -127,7 +122,7 @@ fn device_write(c: Counter, sub: u8, v: i32) -> Counter
     ensures { λ r. ⌜ r ≡ deviceWrite sub v c ⌝ }
 {
     if sub == 4 {
-        set_to(c, AS, v)
+        set_to(c, flag::AS, v)
     } else {
         let s = c.staged;
         let t = device(s, sub, v);
@@ -142,7 +137,7 @@ fn load_by_sp(c: Counter) -> Counter
     ensures { λ r. ⌜ r ≡ load (on SP c) ⌝ }
 {
     let mut d = c;
-    d.flags = bits::set(c.flags, SP);
+    d.flags = bits::set(c.flags, flag::SP);
     loading::load(d)
 }
 
@@ -150,7 +145,7 @@ fn load_by_sp(c: Counter) -> Counter
 fn sp_rises(c: Counter, sub: u8, v: i32) -> bool
     ensures { λ r. ⌜ r ≡ spRises sub v c ⌝ }
 {
-    (sub == 6) & !legality::is_zero(v) & !bits::has(c.flags, SP)
+    (sub == 6) & !legality::is_zero(v) & !bits::has(c.flags, flag::SP)
 }
 
 // Kind 4.
@@ -191,7 +186,7 @@ fn enable(c: Counter) -> Counter
     ensures { λ r. ⌜ r ≡ on FE c ⌝ }
 {
     let mut d = c;
-    d.flags = bits::set(c.flags, FE);
+    d.flags = bits::set(c.flags, flag::FE);
     d
 }
 
@@ -213,7 +208,7 @@ fn enter_run(c: Counter) -> Counter
     ensures { λ r. ⌜ r ≡ enterRun c ⌝ }
 {
     let d = emptied(c);
-    if bits::has(c.flags, AS) {
+    if bits::has(c.flags, flag::AS) {
         auto_start(d)
     } else {
         d

@@ -1,5 +1,6 @@
 // Whether a snapshot is well formed.
 use crate::settings::read_settings;
+use counter::flag;
 use counter::rules::first_broken;
 use counter::state::Settings;
 use word::bits;
@@ -13,9 +14,6 @@ ghost use Rattle.snapshot.specs.Widths.{snapshotSize};
 ghost use Rattle.snapshot.specs.FormedBytes.{causesStand, errorStands, activeStands, formed};
 
 // The flags that well formed speaks of, by bit.
-const ED: u32 = 4;
-
-const LOADED: u32 = 19;
 
 // Below this, flag bits 20-31 are zero.
 const FLAGS_END: u32 = 0x10_0000;
@@ -38,7 +36,7 @@ fn causes_stand(running: u8, first: u8, second: u8) -> bool
 fn error_stands(er: u16, flags: u32) -> bool
     ensures { λ r. ⌜ r ≡ errorStands er flags ⌝ }
 {
-    (er <= 5) & (bits::has(flags, ED) == !(er == 0))
+    (er <= 5) & (bits::has(flags, flag::ED) == !(er == 0))
 }
 
 // Every setting is 0.
@@ -60,7 +58,7 @@ fn is_none(s: Settings) -> bool
 fn active_stands(flags: u32, s: Settings) -> bool
     ensures { λ r. ⌜ r ≡ activeStands flags s ⌝ }
 {
-    if bits::has(flags, LOADED) {
+    if bits::has(flags, flag::LOADED) {
         first_broken(s) == 0
     } else {
         is_none(s)
