@@ -1,0 +1,4 @@
+-- Laws of the text.
+pub mod Digits
+pub mod Pieces
+pub mod Signs

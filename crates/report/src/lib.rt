@@ -1,0 +1,3 @@
+// The lines that the office program writes.
+pub mod line;
+pub mod text;
