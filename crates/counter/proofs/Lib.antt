@@ -11,6 +11,7 @@ pub mod Limits
 pub mod Loads
 pub mod Modes
 pub mod Queue
+pub mod Raising
 pub mod Ranges
 pub mod Samples
 pub mod Steps

@@ -15,15 +15,16 @@ use Rattle.word.specs.TwosComplement.{eqZ}
 use Rattle.word.proofs.Masks.{merge-lt}
 use Rattle.counter.specs.declared.state.Counter.{Counter}
 use Rattle.counter.specs.declared.state.Counted.{Counted}
+use Rattle.counter.specs.declared.state.Sampled.{Sampled}
 use Rattle.counter.specs.declared.state.Count.{Count}
 use Rattle.counter.specs.declared.state.Count.the-variants.{None, Up, Down}
 use Rattle.counter.specs.Parts.{FE, UIE, lowPreset, highPreset, underflow, overflow, LPM, HPM, UFM, OFM, LOADED, flag, withAcc, withFlags, withLevels, upOnly, mode}
 use Rattle.counter.specs.Interrupts.{outputMask, presetWord, causeWord, masked, enabled, post, withOutputs, raise}
-use Rattle.counter.specs.Sample.{counted, up, down, upFlags, downFlags, upOf, downOf, countUp, countDown, count, resets, reset, counting, direction, sample}
+use Rattle.counter.specs.Sample.{counted, up, down, upOf, downOf, sampledAs, unmoved, countedBy, resets, counting, direction, sampled, sample}
 use Rattle.counter.specs.Events.{from, programWord}
 use Rattle.counter.specs.WellFormed.{SettingsTyped}
 use Rattle.counter.proofs.Limits.{up-fits, down-fits}
-use Rattle.counter.proofs.Flags.{kept-upFlags, kept-downFlags}
+use Rattle.counter.proofs.Flags.{Kept, kept-refl, kept-upFlags, kept-downFlags}
 use Rattle.counter.proofs.Formed.{second}
 use Rattle.counter.proofs.Changes.{Well, well-out, well-acc, well-flags, well-levels}
 use Rattle.counter.proofs.Queue.{well-cond, well-post}
@@ -95,39 +96,51 @@ down-acc acc lop ovf unf a o u =
     cond-fits (leZ acc unf) _ _ (λ e. o)
     (λ e. cond-fits (eqZ (acc -ℤ pos 1) lop) (counted (acc -ℤ pos 1) lowPreset) (counted (acc -ℤ pos 1) 0) (λ l. down-fits a u e) (λ l. down-fits a u e))
 
-well-countUp : (c : Counter) → Well c → Well (countUp c)
-unfolding countUp
-well-countUp c w =
-    let a = w .typed .active in
-    let r : Counted = upOf c in
-    let moved : Well (withAcc (r .acc) c) = well-acc c w (r .acc) (up-acc (upOnly (mode c)) (c .acc) (c .active .hip) (c .active .ovf) (c .active .unf) (w .typed .acc) (a .ovf) (a .unf)) in
-    well-raise (withFlags (upFlags (upOnly (mode c)) (r .cause) (c .flags)) (withAcc (r .acc) c)) (r .cause)
-    (well-flags (withAcc (r .acc) c) moved (upFlags (upOnly (mode c)) (r .cause) (c .flags)) (kept-upFlags (upOnly (mode c)) (r .cause) (c .flags)))
+-- what a sample makes of ACC fits, and of the flags keeps ED and LOADED
+record Moved (c : Counter) (r : Sampled) : Type 0 where
+  acc : SFits w32 (r .acc)
+  flags : Kept (c .flags) (r .flags)
 
-well-countDown : (c : Counter) → Well c → Well (countDown c)
-unfolding countDown
-well-countDown c w =
-    let a = w .typed .active in
-    let r : Counted = downOf c in
-    let moved : Well (withAcc (r .acc) c) = well-acc c w (r .acc) (down-acc (c .acc) (c .active .lop) (c .active .ovf) (c .active .unf) (w .typed .acc) (a .ovf) (a .unf)) in
-    well-raise (withFlags (downFlags (r .cause) (c .flags)) (withAcc (r .acc) c)) (r .cause)
-    (well-flags (withAcc (r .acc) c) moved (downFlags (r .cause) (c .flags)) (kept-downFlags (r .cause) (c .flags)))
+moved-cond : (b : Bool) (c : Counter) (x y : Sampled) → Moved c x → Moved c y → Moved c (cond b x y)
+moved-cond true c x y p q = p
+moved-cond false c x y p q = q
 
-well-count : (way : Count) (c : Counter) → Well c → Well (count way c)
-unfolding count
-well-count None c w = w
-well-count Up c w = well-countUp c w
-well-count Down c w = well-countDown c w
+module _ (c : Counter) (w : Well c) where
+  still : Moved c (unmoved c)
+  still = record { acc = w .typed .acc; flags = kept-refl (c .flags) }
 
--- ---- the sample
+  moved-countedBy : (way : Count) → Moved c (countedBy way c)
+  unfolding countedBy
+  moved-countedBy None = still
+  moved-countedBy Up =
+      let a = w .typed .active in
+      record {
+        acc = up-acc (upOnly (mode c)) (c .acc) (c .active .hip) (c .active .ovf) (c .active .unf) (w .typed .acc) (a .ovf) (a .unf);
+        flags = kept-upFlags (upOnly (mode c)) (upOf c .cause) (c .flags);
+      }
+  moved-countedBy Down =
+      let a = w .typed .active in
+      record {
+        acc = down-acc (c .acc) (c .active .lop) (c .active .ovf) (c .active .unf) (w .typed .acc) (a .ovf) (a .unf);
+        flags = kept-downFlags (downOf c .cause) (c .flags);
+      }
 
-pub well-sample : (c : Counter) (new : ℕ) → Well c → new ≤ 15 → Well (sample new c)
-unfolding sample
-well-sample c new w h =
-    let stored : Well (withLevels new c) = well-levels c w new h in
-    let m : ℕ = mode c in
-    let counts : Counter = cond (counting m (c .flags) new) (count (direction m (c .levels) new) (withLevels new c)) (withLevels new c) in
-    well-cond (flag c LOADED) (cond (resets m (c .levels) new) (reset new c) counts) (withLevels new c)
-    (λ l. well-cond (resets m (c .levels) new) (reset new c) counts (λ r. well-acc (withLevels new c) stored (pos 0) (record { sfits = lit< tt }))
-    (λ r. well-cond (counting m (c .flags) new) (count (direction m (c .levels) new) (withLevels new c)) (withLevels new c) (λ k. well-count (direction m (c .levels) new) (withLevels new c) stored) (λ k. stored)))
-    (λ l. stored)
+  moved-sampled : (new : ℕ) → Moved c (sampled new c)
+  unfolding sampled
+  moved-sampled new =
+      let m : ℕ = mode c in
+      let way : Count = direction m (c .levels) new in
+      let counts : Moved c (cond (counting m (c .flags) new) (countedBy way c) (unmoved c)) = moved-cond (counting m (c .flags) new) c (countedBy way c) (unmoved c) (moved-countedBy way) still in
+      let reset : Moved c (sampledAs (pos 0) (c .flags) 0) = record { acc = record { sfits = lit< tt }; flags = kept-refl (c .flags) } in
+      moved-cond (flag c LOADED) c _ (unmoved c) (moved-cond (resets m (c .levels) new) c _ _ reset counts) still
+
+  -- ---- the sample
+
+  pub well-sample : (new : ℕ) → new ≤ 15 → Well (sample new c)
+  unfolding sample
+  well-sample new h =
+      let r : Sampled = sampled new c in
+      let m : Moved c r = moved-sampled new in
+      let stored : Well (withLevels new c) = well-levels c w new h in
+      let counted : Well (withAcc (r .acc) (withLevels new c)) = well-acc (withLevels new c) stored (r .acc) (m .acc) in
+      well-raise (withFlags (r .flags) (withAcc (r .acc) (withLevels new c))) (r .cause) (well-flags (withAcc (r .acc) (withLevels new c)) counted (r .flags) (m .flags))

@@ -119,7 +119,7 @@ flagged kind sub v e l = rw e at l
 well-apply : (c : Counter) (kind sub : ℕ) (v : ℤ) → Well c → SFits w32 v → legal kind sub v ≡ true → Well (apply kind sub v c)
 unfolding apply stagedWrite
 well-apply c kind sub v w h l =
-    well-cond (eqb kind 1) _ _ (λ k. well-sample c (levelsOf v) w (le-of-suc-le-suc (mod-lt (unsigned w32 v) (lit< tt))))
+    well-cond (eqb kind 1) _ _ (λ k. well-sample c w (levelsOf v) (le-of-suc-le-suc (mod-lt (unsigned w32 v) (lit< tt))))
     (λ k. well-cond (eqb kind 2) _ _ (λ k. well-staged c w (staged sub v (c .staged)) (staged-typed sub v (c .staged) h (w .typed .staged)))
     (λ k. well-cond (eqb kind 3) _ _ (λ k. well-deviceWrite c sub v w)
     (λ k. well-cond (eqb kind 4) _ _ (λ k. well-flagWrite c sub v w (flagged kind sub v (eqb-true kind 4 k) l))

@@ -8,10 +8,12 @@ use denote.RattleType.{Valss}
 use Rattle.counter.specs.declared.state.Settings.{Settings}
 use Rattle.counter.specs.declared.state.Counter.{Counter}
 use Rattle.counter.specs.declared.state.Counted.{Counted}
+use Rattle.counter.specs.declared.state.Sampled.{Sampled}
 use Rattle.counter.specs.WellFormed.{SettingsTyped, Typed}
 use Rattle.counter.proofs.state.Settings as settings
 use Rattle.counter.proofs.state.Counter as counter
 use Rattle.counter.proofs.state.Counted as counted
+use Rattle.counter.proofs.state.Sampled as sampled
 
 pub settings-told : (s : Settings) (vss : Valss (fields settings.the-type)) → AreAll (fields settings.the-type) (settings.the-type .to s) vss → SettingsTyped s
 settings-told s vss g =
@@ -38,3 +40,6 @@ counter-told c vss g =
 
 pub counted-told : (r : Counted) (vss : Valss (fields counted.the-type)) → AreAll (fields counted.the-type) (counted.the-type .to r) vss → SFits w32 (r .acc)
 counted-told r vss g = record { sfits = g .0 .1 }
+
+pub sampled-told : (r : Sampled) (vss : Valss (fields sampled.the-type)) → AreAll (fields sampled.the-type) (sampled.the-type .to r) vss → SFits w32 (r .acc)
+sampled-told r vss g = record { sfits = g .0 .1 }

@@ -12,11 +12,12 @@ use Rattle.word.specs.Masks.{bit}
 use Rattle.word.proofs.Masks.{bit-merge, bit-mod, bit-above}
 use Rattle.counter.specs.declared.state.Settings.{Settings}
 use Rattle.counter.specs.declared.state.Counter.{Counter}
+use Rattle.counter.specs.declared.state.Sampled.{Sampled}
 use Rattle.counter.specs.declared.state.Count.{Count}
 use Rattle.counter.specs.declared.state.Count.the-variants.{None, Up, Down}
-use Rattle.counter.specs.Parts.{UIL, LOADED, lowPreset, highPreset, flag, on, withStaged, withLevels, mode}
+use Rattle.counter.specs.Parts.{UIL, lowPreset, highPreset, on, withStaged, withAcc, withFlags, withLevels, mode}
 use Rattle.counter.specs.Interrupts.{outputMask, presetWord, causeWord, enabled, starting, waiting, post, withOutputs, raise}
-use Rattle.counter.specs.Sample.{countUp, countDown, count, resets, reset, counting, direction, sample}
+use Rattle.counter.specs.Sample.{countedBy, direction, sampled, after, sample}
 use Rattle.counter.specs.Events.{wordOf, programWord, outputWrite}
 use Rattle.counter.proofs.Samples.{causeWord-lt, programWord-lt}
 
@@ -97,27 +98,22 @@ module _ (s : Settings) where
       go true = post-staged cause (withOutputs cause c)
       go false = refl
 
-  count-staged : (way : Count) (c : Counter) → count way (withStaged s c) ≡ withStaged s (count way c)
-  unfolding count countUp countDown
-  count-staged None c = refl
-  count-staged Up c = raise-staged _ _
-  count-staged Down c = raise-staged _ _
+  countedBy-staged : (way : Count) (c : Counter) → countedBy way (withStaged s c) ≡ countedBy way c
+  unfolding countedBy
+  countedBy-staged None c = refl
+  countedBy-staged Up c = refl
+  countedBy-staged Down c = refl
+
+  sampled-staged : (new : ℕ) (c : Counter) → sampled new (withStaged s c) ≡ sampled new c
+  unfolding sampled
+  sampled-staged new c = rw (countedBy-staged (direction (mode c) (c .levels) new) c)
 
   -- staged settings, OMB among them, have no say in an input sample or in the program's word
   pub sample-staged : (new : ℕ) (c : Counter) → sample new (withStaged s c) ≡ withStaged s (sample new c)
   unfolding sample
-  sample-staged new c = go (flag c LOADED) (resets (mode c) (c .levels) new) (counting (mode c) (c .flags) new)
-    where
-      way : Count
-      way = direction (mode c) (c .levels) new
-
-      go : (l r k : Bool)
-          → cond l (cond r (withStaged s (reset new c)) (cond k (count way (withStaged s (withLevels new c))) (withStaged s (withLevels new c)))) (withStaged s (withLevels new c))
-          ≡ withStaged s (cond l (cond r (reset new c) (cond k (count way (withLevels new c)) (withLevels new c))) (withLevels new c))
-      go true true k = refl
-      go true false true = count-staged way (withLevels new c)
-      go true false false = refl
-      go false r k = refl
+  sample-staged new c =
+      ap (λ (r : Sampled). after r (withLevels new (withStaged s c))) (sampled-staged new c)
+      ∙ raise-staged (sampled new c .cause) (withFlags (sampled new c .flags) (withAcc (sampled new c .acc) (withLevels new c)))
 
   pub output-staged : (v : ℤ) (c : Counter) → outputWrite v (withStaged s c) ≡ withStaged s (outputWrite v c)
   output-staged v c = refl

@@ -9,10 +9,10 @@ use Rattle.word.specs.TwosComplement.{eqZ}
 use Rattle.counter.specs.declared.state.Settings.{Settings}
 use Rattle.counter.specs.declared.state.Counter.{Counter}
 use Rattle.counter.specs.declared.state.Count.{Count}
-use Rattle.counter.specs.declared.state.Count.the-variants.{None, Up, Down}
+use Rattle.counter.specs.declared.state.Count.the-variants.{Up, Down}
 use Rattle.counter.specs.Parts.{UIE, UIL, FE, LPI, HPI, OF, MD, LOADED, lowPreset, highPreset, underflow, overflow, withActive, withAcc, withOut, withCauses, flag, on, fresh}
 use Rattle.counter.specs.Interrupts.{finish, raise}
-use Rattle.counter.specs.Sample.{upOf, downOf, count}
+use Rattle.counter.specs.Sample.{countedBy, after}
 
 -- ---- what the rows start from
 
@@ -40,15 +40,13 @@ crowded = withCauses 2 (1 ∷ 4 ∷ []) 2 (on FE (on UIE (on HPI fresh)))
 
 -- ---- tests
 
--- the cause that a count raises, 0 for none
-abbrev pub raised : Count → Counter → ℕ
-raised None c = 0
-raised Up c = upOf c .cause
-raised Down c = downOf c .cause
+-- the counter after one count
+abbrev pub count : Count → Counter → Counter
+count way c = after (countedBy way c) c
 
 -- one count from c leaves ACC and raises the cause
 abbrev pub gives : Counter → Count → ℤ → ℕ → Bool
-gives c way acc cause = eqZ (count way c .acc) acc && eqb (raised way c) cause
+gives c way acc cause = eqZ (count way c .acc) acc && eqb (countedBy way c .cause) cause
 
 -- running, and the waiting causes beside their number
 abbrev pub causesAre : Counter → ℕ → ℕ → ℕ → ℕ → Bool

@@ -8,6 +8,7 @@ use Rattle.word.specs.Masks.{bit, setBit, clearBit}
 use Rattle.word.specs.TwosComplement.{eqZ}
 use Rattle.counter.specs.declared.state.Counter.{Counter}
 use Rattle.counter.specs.declared.state.Counted.{Counted}
+use Rattle.counter.specs.declared.state.Sampled.{Sampled}
 use Rattle.counter.specs.declared.state.Count.{Count}
 use Rattle.counter.specs.declared.state.Count.the-variants.{None, Up, Down}
 use Rattle.counter.specs.Parts.{CE, DIR, UF, OF, MD, LOADED, lowPreset, highPreset, underflow, overflow, withAcc, withFlags, withLevels, flag, upOnly, mode}
@@ -80,18 +81,23 @@ upOf c = up (upOnly (mode c)) (c .acc) (c .active .hip) (c .active .ovf) (c .act
 abbrev pub downOf : Counter → Counted
 downOf c = down (c .acc) (c .active .lop) (c .active .ovf) (c .active .unf)
 
-unfoldable pub countUp : Counter → Counter
-countUp c =
-    raise (upOf c .cause) (withFlags (upFlags (upOnly (mode c)) (upOf c .cause) (c .flags)) (withAcc (upOf c .acc) c))
+-- what a sample makes of ACC and of the flags, and the cause that it raises, 0 for none
+abbrev pub sampledAs : ℤ → ℕ → ℕ → Sampled
+sampledAs acc flags cause = record { acc = acc; flags = flags; cause = cause }
 
-unfoldable pub countDown : Counter → Counter
-countDown c =
-    raise (downOf c .cause) (withFlags (downFlags (downOf c .cause) (c .flags)) (withAcc (downOf c .acc) c))
+abbrev pub unmoved : Counter → Sampled
+unmoved c = sampledAs (c .acc) (c .flags) 0
 
-unfoldable pub count : Count → Counter → Counter
-count None c = c
-count Up c = countUp c
-count Down c = countDown c
+abbrev pub countedUp : Counter → Sampled
+countedUp c = sampledAs (upOf c .acc) (upFlags (upOnly (mode c)) (upOf c .cause) (c .flags)) (upOf c .cause)
+
+abbrev pub countedDown : Counter → Sampled
+countedDown c = sampledAs (downOf c .acc) (downFlags (downOf c .cause) (c .flags)) (downOf c .cause)
+
+unfoldable pub countedBy : Count → Counter → Sampled
+countedBy None c = unmoved c
+countedBy Up c = countedUp c
+countedBy Down c = countedDown c
 
 -- ---- the sample
 
@@ -99,18 +105,22 @@ count Down c = countDown c
 unfoldable pub resets : ℕ → ℕ → ℕ → Bool
 resets m old new = hasReset m && rises old new 2
 
--- ACC 0, no count, nothing raised
-abbrev pub reset : ℕ → Counter → Counter
-reset new c = withAcc (pos 0) (withLevels new c)
-
 -- whether a sample may count: CE is 1, and no hold (input 3) is on
 unfoldable pub counting : ℕ → ℕ → ℕ → Bool
 counting m flags new = bit flags CE && not (hasReset m && bit new 3)
 
--- New levels are always stored; with nothing loaded that is all. A reset comes whatever CE and hold are.
-unfoldable pub sample : ℕ → Counter → Counter
-sample new c =
+-- With nothing loaded nothing moves. A reset: ACC 0, no count, nothing raised, whatever CE and hold are.
+unfoldable pub sampled : ℕ → Counter → Sampled
+sampled new c =
     cond (flag c LOADED)
-    (cond (resets (mode c) (c .levels) new) (reset new c)
-    (cond (counting (mode c) (c .flags) new) (count (direction (mode c) (c .levels) new) (withLevels new c)) (withLevels new c)))
-    (withLevels new c)
+    (cond (resets (mode c) (c .levels) new) (sampledAs (pos 0) (c .flags) 0)
+    (cond (counting (mode c) (c .flags) new) (countedBy (direction (mode c) (c .levels) new) c) (unmoved c)))
+    (unmoved c)
+
+-- ACC and the flags are stored, then the cause is raised
+abbrev pub after : Sampled → Counter → Counter
+after r c = raise (r .cause) (withFlags (r .flags) (withAcc (r .acc) c))
+
+-- new levels are always stored
+unfoldable pub sample : ℕ → Counter → Counter
+sample new c = after (sampled new c) (withLevels new c)

@@ -1,4 +1,4 @@
-// One input sample over a whole counter: reset, hold, and the count that the mode asks for.
+// One input sample: reset, hold, and the count that the mode asks for.
 use super::causes;
 use super::counting;
 use super::flag;
@@ -6,93 +6,114 @@ use super::inputs;
 use super::rules;
 use super::state::Count;
 use super::state::Counter;
+use super::state::Sampled;
 use word::bits;
 ghost use mathlib.Core.Path.{_≡_};
-ghost use Rattle.counter.specs.Parts.{withLevels};
-ghost use Rattle.counter.specs.Sample.{countUp, countDown, count, counting, resets, reset, sample};
+ghost use lib.IntN.{pos};
+ghost use Rattle.counter.specs.Sample.{sampledAs, unmoved, countedUp, countedDown, countedBy, resets, counting, sampled, sample};
 
-fn count_up(c: Counter) -> Counter
-    ensures { λ r. ⌜ r ≡ countUp c ⌝ }
+fn unmoved(c: Counter) -> Sampled
+    ensures { λ r. ⌜ r ≡ unmoved c ⌝ }
+{
+    Sampled {
+        acc: c.acc,
+        flags: c.flags,
+        cause: 0,
+    }
+}
+
+fn counted_up(c: Counter) -> Sampled
+    ensures { λ r. ⌜ r ≡ countedUp c ⌝ }
 {
     let a = c.active;
     let single = rules::up_only(rules::mode_of(a.mode));
     let r = counting::up(single, c.acc, a.hip, a.ovf, a.unf);
-    let mut d = c;
-    d.acc = r.acc;
-    d.flags = counting::up_flags(single, r.cause, c.flags);
-    causes::raise(d, r.cause)
+    Sampled {
+        acc: r.acc,
+        flags: counting::up_flags(single, r.cause, c.flags),
+        cause: r.cause,
+    }
 }
 
-fn count_down(c: Counter) -> Counter
-    ensures { λ r. ⌜ r ≡ countDown c ⌝ }
+fn counted_down(c: Counter) -> Sampled
+    ensures { λ r. ⌜ r ≡ countedDown c ⌝ }
 {
     let a = c.active;
     let r = counting::down(c.acc, a.lop, a.ovf, a.unf);
-    let mut d = c;
-    d.acc = r.acc;
-    d.flags = counting::down_flags(r.cause, c.flags);
-    causes::raise(d, r.cause)
+    Sampled {
+        acc: r.acc,
+        flags: counting::down_flags(r.cause, c.flags),
+        cause: r.cause,
+    }
 }
 
-fn count(c: Counter, way: Count) -> Counter
-    ensures { λ r. ⌜ r ≡ count way c ⌝ }
+fn counted_by(way: Count, c: Counter) -> Sampled
+    ensures { λ r. ⌜ r ≡ countedBy way c ⌝ }
 {
     match way {
-        Count::None => c,
-        Count::Up => count_up(c),
-        Count::Down => count_down(c),
+        Count::None => unmoved(c),
+        Count::Up => counted_up(c),
+        Count::Down => counted_down(c),
     }
 }
 
 // Whether the sample resets: input 2 rises in a mode that has a reset.
-fn resets(c: Counter, m: u8, new: u8) -> bool
-    ensures { λ r. ⌜ r ≡ resets m (c .levels) new ⌝ }
+fn resets(m: u8, old: u8, new: u8) -> bool
+    ensures { λ r. ⌜ r ≡ resets m old new ⌝ }
 {
-    inputs::has_reset(m) & inputs::rises(c.levels, new, 2)
+    inputs::has_reset(m) & inputs::rises(old, new, 2)
 }
 
 // Whether the sample may count: CE is 1, and no hold is on.
-fn may_count(c: Counter, m: u8, new: u8) -> bool
-    ensures { λ r. ⌜ r ≡ counting m (c .flags) new ⌝ }
+fn may_count(m: u8, flags: u32, new: u8) -> bool
+    ensures { λ r. ⌜ r ≡ counting m flags new ⌝ }
 {
-    bits::has(c.flags, flag::CE) & !(inputs::has_reset(m) & inputs::is_on(new, 3))
+    bits::has(flags, flag::CE) & !(inputs::has_reset(m) & inputs::is_on(new, 3))
 }
 
-fn with_levels(c: Counter, new: u8) -> Counter
-    ensures { λ r. ⌜ r ≡ withLevels new c ⌝ }
+fn reset(flags: u32) -> Sampled
+    ensures { λ r. ⌜ r ≡ sampledAs (pos 0) flags 0 ⌝ }
 {
-    let mut d = c;
-    d.levels = new;
-    d
+    Sampled {
+        acc: 0,
+        flags,
+        cause: 0,
+    }
 }
 
-fn reset(c: Counter, new: u8) -> Counter
-    ensures { λ r. ⌜ r ≡ reset new c ⌝ }
-{
-    let mut d = c;
-    d.levels = new;
-    d.acc = 0;
-    d
-}
-
-// The sample stores the new levels, and with settings loaded resets, counts or does neither.
-pub fn sample(c: Counter, new: u8) -> Counter
-    ensures { λ r. ⌜ r ≡ sample new c ⌝ }
+// What the sample makes of ACC and the flags.
+fn sampled(c: Counter, new: u8) -> Sampled
+    ensures { λ r. ⌜ r ≡ sampled new c ⌝ }
 {
     let a = c.active;
     let m = rules::mode_of(a.mode);
-    let d = with_levels(c, new);
     if bits::has(c.flags, flag::LOADED) {
-        if resets(c, m, new) {
-            reset(c, new)
+        if resets(m, c.levels, new) {
+            reset(c.flags)
         } else {
-            if may_count(c, m, new) {
-                count(d, inputs::direction(m, c.levels, new))
+            if may_count(m, c.flags, new) {
+                counted_by(inputs::direction(m, c.levels, new), c)
             } else {
-                d
+                unmoved(c)
             }
         }
     } else {
+        unmoved(c)
+    }
+}
+
+// The counter after the sample: new levels, ACC and flags, and then the cause.
+pub fn sample(c: Counter, new: u8) -> Counter
+    ensures { λ r. ⌜ r ≡ sample new c ⌝ }
+{
+    let r = sampled(c, new);
+    let mut d = c;
+    d.levels = new;
+    d.acc = r.acc;
+    d.flags = r.flags;
+    if r.cause == 0 {
         d
+    } else {
+        causes::raise(d, r.cause)
     }
 }

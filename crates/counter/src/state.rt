@@ -42,6 +42,13 @@ pub struct Counted {
     pub cause: u8,
 }
 
+// What an input sample makes of ACC and of the flags, and the cause that it raises, 0 for none.
+pub struct Sampled {
+    pub acc: i32,
+    pub flags: u32,
+    pub cause: u8,
+}
+
 // A counter that was never set up.
 pub fn fresh() -> Counter
     ensures { λ r. ⌜ r ≡ fresh ⌝ }

@@ -1,6 +1,6 @@
 -- `counter::sampling::may_count` meets its contract: the tests are the definition's.
-use borrow.Author.Needs.{needs}
 use Rattle.counter.specs.Sample.{counting}
+use borrow.Author.Needs.{needs}
 use Rattle.counter.proofs.sampling.may_count.Statement.{statement}
 use Rattle.counter.proofs.sampling.may_count.Tie as tie
 

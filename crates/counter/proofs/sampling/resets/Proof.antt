@@ -1,6 +1,6 @@
 -- `counter::sampling::resets` meets its contract: the tests are the definition's.
-use borrow.Author.Needs.{needs}
 use Rattle.counter.specs.Sample.{resets}
+use borrow.Author.Needs.{needs}
 use Rattle.counter.proofs.sampling.resets.Statement.{statement}
 use Rattle.counter.proofs.sampling.resets.Tie as tie
 

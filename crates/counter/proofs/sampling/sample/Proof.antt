@@ -1,95 +1,35 @@
--- `counter::sampling::sample` meets its contract: each test is the definition's, in its order.
-use mathlib.Core.Path.{_≡_, ap, _∙_}
-use mathlib.Core.Bool.{Bool}
+-- `counter::sampling::sample` meets its contract: no cause raises nothing, so the test changes nothing.
+use mathlib.Core.Path.{_≡_, sym, _∙_}
+use mir.Syntax.{w32}
+use mir.Val.{SFits}
 use Rattle.word.proofs.TwosComplement.{signed-unsigned}
-use Rattle.word.proofs.Branches.{told}
-use Rattle.counter.specs.Parts.{mode, modeOf}
-use Rattle.counter.specs.Sample.{resets, counting, direction, count, sample}
-use Rattle.counter.proofs.Told.{settings-told}
+use Rattle.counter.specs.Sample.{sample}
+use Rattle.counter.proofs.Told.{sampled-told}
+use Rattle.counter.proofs.Raising.{raise-none}
 use borrow.Author.Needs.{needs}
 use Rattle.counter.proofs.sampling.sample.Statement.{statement}
 use Rattle.counter.proofs.sampling.sample.Tie as tie
 
-moded : (c : tie.After-mode-of) → c .mode-of .result ≡ mode (c .before .before .before .args .c)
-moded c =
-    let k = c .before .before .before .args .c in
-    c .mode-of .ensures ∙ ap modeOf (signed-unsigned (settings-told (k .active) _ (c .before .struct-told .given) .mode))
+acc-fits : (c : tie.After-struct-told) → SFits w32 (c .before .sampled .result .acc)
+acc-fits c = sampled-told (c .before .sampled .result) _ (c .struct-told .given)
 
--- what the tests said of the definition's
-resetting : (c : tie.After-resets) (v : Bool) → c .resets .result ≡ v
-    → resets (mode (c .before .before .before .before .before .before .before .args .c)) (c .before .before .before .before .before .before .before .args .c .levels) (c .before .before .before .before .before .before .before .args .new) ≡ v
-resetting c v e = rw (moded (c .before .before .before .before)) at (told (c .resets .ensures) e)
+sampled-requires : tie.Need-sampled-requires
+sampled-requires c κs = search needs
 
-may : (c : tie.After-may-count) (v : Bool) → c .may-count .result ≡ v
-    → counting (mode (c .before .before .before .before .before .before .before .before .before .args .c)) (c .before .before .before .before .before .before .before .before .before .args .c .flags) (c .before .before .before .before .before .before .before .before .before .args .new) ≡ v
-may c v e = rw (moded (c .before .before .before .before .before .before)) at (told (c .may-count .ensures) e)
-
-mode-of-requires : tie.Need-mode-of-requires
-mode-of-requires c κs = search needs
-
-with-levels-requires : tie.Need-with-levels-requires
-with-levels-requires c κs = search needs
-
-has-requires : tie.Need-has-requires
-has-requires c κs = search needs
-
-resets-requires : tie.Need-resets-requires
-resets-requires c κs = search needs
-
-reset-requires : tie.Need-reset-requires
-reset-requires c κs = search needs
-
-may-count-requires : tie.Need-may-count-requires
-may-count-requires c κs = search needs
-
-direction-requires : tie.Need-direction-requires
-direction-requires c κs = search needs
-
-count-requires : tie.Need-count-requires
-count-requires c κs = search needs
+raise-requires : tie.Need-raise-requires
+raise-requires c κs = search needs
 
 returns : tie.Need-returns
 unfolding sample
 returns c =
-    let tested = c .before .before in
-    let first = tested .before in
-    rw (told (first .before .has .ensures) (first .if1 .taken), resetting tested _ (c .before .if2 .taken)) (c .reset .ensures)
+    let told = c .before .before in
+    rw (signed-unsigned (acc-fits told), ← told .before .sampled .ensures, c .if1 .taken) (sym (raise-none _))
 
 returns-2 : tie.Need-returns-2
 unfolding sample
 returns-2 c =
-    let last = c .before .before .before in
-    let tested = last .before .before in
-    let first = tested .before in
-    let m = moded (first .before .before .before) in
-    rw (told (first .before .has .ensures) (first .if1 .taken), resetting tested _ (last .before .if2 .left), may last _ (c .before .before .if3 .taken))
-    (c .count .ensures ∙ simp (c .before .direction .ensures, first .before .before .with-levels .ensures, m))
-
-returns-3 : tie.Need-returns-3
-unfolding sample
-returns-3 c =
-    let last = c .before in
-    let tested = last .before .before in
-    let first = tested .before in
-    rw (told (first .before .has .ensures) (first .if1 .taken), resetting tested _ (last .before .if2 .left), may last _ (c .if3 .left)) (first .before .before .with-levels .ensures)
-
-returns-4 : tie.Need-returns-4
-unfolding sample
-returns-4 c = rw (told (c .before .has .ensures) (c .if1 .left)) (c .before .before .with-levels .ensures)
+    let told = c .before .before .before in
+    c .raise .ensures ∙ rw (signed-unsigned (acc-fits told), told .before .sampled .ensures)
 
 pub sample-spec : {M : Type 1} → statement M
-sample-spec =
-    tie.close
-    (tie.spec
-    mode-of-requires
-    with-levels-requires
-    has-requires
-    resets-requires
-    reset-requires
-    may-count-requires
-    direction-requires
-    count-requires
-    returns
-    returns-2
-    returns-3
-    returns-4)
+sample-spec = tie.close (tie.spec sampled-requires raise-requires returns returns-2)

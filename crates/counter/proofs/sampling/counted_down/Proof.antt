@@ -1,13 +1,13 @@
--- `counter::sampling::count_down` meets its contract: the parts are handed on as the definition names them.
+-- `counter::sampling::counted_down` meets its contract: the parts are handed on as the definition names them.
 use mathlib.Core.Path.{_≡_, _∙_}
 use mir.Syntax.{w32}
 use mir.Val.{SFits}
 use Rattle.word.proofs.TwosComplement.{signed-unsigned}
-use Rattle.counter.specs.Sample.{downOf, countDown}
+use Rattle.counter.specs.Sample.{downOf}
 use Rattle.counter.proofs.Told.{settings-told, counter-told, counted-told}
 use borrow.Author.Needs.{needs}
-use Rattle.counter.proofs.sampling.count_down.Statement.{statement}
-use Rattle.counter.proofs.sampling.count_down.Tie as tie
+use Rattle.counter.proofs.sampling.counted_down.Statement.{statement}
+use Rattle.counter.proofs.sampling.counted_down.Tie as tie
 
 counted : (c : tie.After-down) → c .down .result ≡ downOf (c .before .before .before .before .before .before .args .c)
 counted c =
@@ -24,17 +24,13 @@ down-requires c κs = search needs
 down-flags-requires : tie.Need-down-flags-requires
 down-flags-requires c κs = search needs
 
-raise-requires : tie.Need-raise-requires
-raise-requires c κs = search needs
-
 returns : tie.Need-returns
-unfolding countDown
 returns c =
-    let down-done = c .before .before .before in
+    let flagged = c .before in
+    let down-done = flagged .before in
     let k = down-done .before .before .before .before .before .before .args .c in
-    let fits : SFits w32 (downOf k .acc) = rw (counted down-done) at (counted-told (down-done .down .result) _ (c .before .before .struct-told5 .given)) in
-    c .raise .ensures
-    ∙ simp (c .before .down-flags .ensures, counted down-done, signed-unsigned fits)
+    let fits : SFits w32 (downOf k .acc) = rw (counted down-done) at (counted-told (down-done .down .result) _ (c .struct-told5 .given)) in
+    simp (flagged .down-flags .ensures, counted down-done, signed-unsigned fits)
 
-pub count-down-spec : {M : Type 1} → statement M
-count-down-spec = tie.close (tie.spec down-requires down-flags-requires raise-requires returns)
+pub counted-down-spec : {M : Type 1} → statement M
+counted-down-spec = tie.close (tie.spec down-requires down-flags-requires returns)
