@@ -1,0 +1,3 @@
+-- Laws for the proofs of the calls.
+mod Widened
+mod Rows

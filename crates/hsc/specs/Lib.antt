@@ -1,0 +1,2 @@
+-- What each call of the C surface answers, and what every lent buffer holds after.
+pub mod Fields
