@@ -21,10 +21,10 @@ short-pos {n} h =
     let below : n < 2 ^ 31 = omega arith in
     toZ-pos w32 below
 
-pub bit-pos : (b : Bool) → toZ w32 (boolByte b) ≡ bitField b
-bit-pos true = refl
-bit-pos false = refl
-
--- a number that a call answered
-pub told-signed : {z v : ℤ} → SFits w32 z → z ≡ v → toZ w32 (ofZ w32 z) ≡ v
-told-signed f e = toZ-ofZ f ∙ e
+-- a bit that a call answered
+pub told-bit : {a b : Bool} → a ≡ b → toZ w32 (boolByte a) ≡ bitField b
+told-bit {a} e = as-number a ∙ ap bitField e
+  where
+    as-number : (b : Bool) → toZ w32 (boolByte b) ≡ bitField b
+    as-number true = refl
+    as-number false = refl

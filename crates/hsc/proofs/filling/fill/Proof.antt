@@ -1,6 +1,5 @@
 -- `hsc::filling::fill` meets its contract: four rows copied side by side are all the numbers.
 use borrow.Author.Needs.{needs}
-use native.Mathlib.Omega.{arith}
 use Rattle.hsc.proofs.Rows.{filled}
 use Rattle.hsc.proofs.filling.fill.Statement.{statement}
 use Rattle.hsc.proofs.filling.fill.Tie as tie
@@ -51,8 +50,9 @@ returns c =
     let active = stored .before in
     let staged = active .before in
     let start = staged .before in
-    filled (start .args .c) _ _ _ _ _ _ _ _ _ (first .before .before .copy-row-arg .given .0 .1) (staged .settings-row .ensures) (active .settings-row2 .ensures) (stored .stored-row .ensures) (shown .shown-row .ensures) (first .copy-row .ensures) (second .copy-row2 .ensures)
-    (third .copy-row3 .ensures) (c .copy-row4 .ensures)
+    filled (start .args .c) _ _ _ _ _ _ _ _ _ (first .before .before .copy-row-arg .given .0 .1)
+    (staged .settings-row .ensures) (active .settings-row2 .ensures) (stored .stored-row .ensures) (shown .shown-row .ensures)
+    (first .copy-row .ensures) (second .copy-row2 .ensures) (third .copy-row3 .ensures) (c .copy-row4 .ensures)
 
 pub fill-spec : {M : Type 1} → statement M
 fill-spec =

@@ -1,17 +1,9 @@
 -- `hsc::filling::shown_row` meets its contract: each bit is the one that the definition shows, as 1 or 0.
 use borrow.Author.Needs.{needs}
-use mathlib.Core.Path.{_≡_, ap, _∙_}
-use mathlib.Core.Bool.{Bool}
 use mathlib.Core.List.{[], _∷_}
-use mir.Syntax.{w32}
-use mir.Val.{toZ, boolByte}
-use Rattle.hsc.specs.Fields.{bitField}
-use Rattle.hsc.proofs.Widened.{bit-pos}
+use Rattle.hsc.proofs.Widened.{told-bit}
 use Rattle.hsc.proofs.filling.shown_row.Statement.{statement}
 use Rattle.hsc.proofs.filling.shown_row.Tie as tie
-
-shown : {a b : Bool} → a ≡ b → toZ w32 (boolByte a) ≡ bitField b
-shown {a} e = bit-pos a ∙ ap bitField e
 
 uix-requires : tie.Need-uix-requires
 uix-requires c κs = search needs
@@ -56,12 +48,12 @@ returns c =
     let cu = cd .before in
     let uip = cu .before in
     let uix = uip .before in
-    λ i. shown (uix .uix .ensures) i
-    ∷ shown (uip .uip .ensures) i
-    ∷ shown (cu .cu .ensures) i
-    ∷ shown (cd .cd .ensures) i
-    ∷ shown (hpr .hpr .ensures) i
-    ∷ shown (c .lpr .ensures) i
+    λ i. told-bit (uix .uix .ensures) i
+    ∷ told-bit (uip .uip .ensures) i
+    ∷ told-bit (cu .cu .ensures) i
+    ∷ told-bit (cd .cd .ensures) i
+    ∷ told-bit (hpr .hpr .ensures) i
+    ∷ told-bit (c .lpr .ensures) i
     ∷ []
 
 pub shown-row-spec : {M : Type 1} → statement M

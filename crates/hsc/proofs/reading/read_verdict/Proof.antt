@@ -1,12 +1,12 @@
--- `hsc::single::read_verdict` meets its contract: its tests are the definition's, in its order, on the whole buffer.
+-- `hsc::reading::read_verdict` meets its contract: its tests are the definition's, in its order, on the whole buffer.
 use borrow.Author.Needs.{needs}
 use borrow.Author.Tests.{eq-eqb, ne-eqb, not-true, not-false}
 use denote.Ref.{now}
 use Rattle.snapshot.specs.FormedBytes.{formed}
 use Rattle.hsc.specs.Calls.{readVerdict}
 use Rattle.hsc.proofs.Whole.{told-whole}
-use Rattle.hsc.proofs.single.read_verdict.Statement.{statement}
-use Rattle.hsc.proofs.single.read_verdict.Tie as tie
+use Rattle.hsc.proofs.reading.read_verdict.Statement.{statement}
+use Rattle.hsc.proofs.reading.read_verdict.Tie as tie
 
 returns : tie.Need-returns
 unfolding readVerdict

@@ -1,4 +1,4 @@
--- `hsc::single::hsc_read` meets its contract: the status is the verdict's, and only at status 0, where the length is right, are the fields filled.
+-- `hsc::reading::hsc_read` meets its contract: the status is the verdict's, and only at status 0, where the length is right, are the fields filled.
 use borrow.Author.Needs.{needs}
 use mathlib.Core.Path.{_≡_, sym, ap, _∙_}
 use native.Mathlib.Nat.{le-of-eq}
@@ -11,8 +11,8 @@ use Rattle.hsc.specs.Fields.{fieldsOf}
 use Rattle.hsc.specs.Calls.{readVerdict, readAnswer}
 use Rattle.hsc.proofs.Done.{done, refused, read-sized}
 use Rattle.hsc.proofs.Whole.{of-whole}
-use Rattle.hsc.proofs.single.hsc_read.Statement.{statement}
-use Rattle.hsc.proofs.single.hsc_read.Tie as tie
+use Rattle.hsc.proofs.reading.hsc_read.Statement.{statement}
+use Rattle.hsc.proofs.reading.hsc_read.Tie as tie
 
 abbrev entry : tie.After-status-of → tie.Start
 entry c = c .before .before .before

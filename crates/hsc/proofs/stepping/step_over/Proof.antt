@@ -1,4 +1,4 @@
--- `hsc::single::step_over` meets its contract: the buffer is read whole, stepped, and written whole.
+-- `hsc::stepping::step_over` meets its contract: the buffer is read whole, stepped, and written whole.
 use borrow.Author.Needs.{needs}
 use mathlib.Core.Path.{_≡_, ap, ap₂, sym, _∙_}
 use mathlib.Core.List.{List}
@@ -12,8 +12,8 @@ use Rattle.snapshot.specs.Snapshots.{encode, decode}
 use Rattle.snapshot.specs.EventBytes.{stepEvent}
 use Rattle.snapshot.proofs.RoundTrip.{length-encode}
 use Rattle.hsc.proofs.Whole.{of-whole, put-whole}
-use Rattle.hsc.proofs.single.step_over.Statement.{statement}
-use Rattle.hsc.proofs.single.step_over.Tie as tie
+use Rattle.hsc.proofs.stepping.step_over.Statement.{statement}
+use Rattle.hsc.proofs.stepping.step_over.Tie as tie
 
 stepped : (s e t : List ℕ) (c d : Counter) → length s ≡ snapshotSize → length e ≡ eventSize
     → c ≡ decode (part s 0 snapshotSize)

@@ -1,7 +1,6 @@
-// The calls on one event and one snapshot: check, step and reading.
+// The call that steps a snapshot by one event.
 use crate::answer;
 use crate::answer::Answer;
-use crate::filling::fill;
 use snapshot::EVENT_SIZE;
 use snapshot::SNAPSHOT_SIZE;
 use snapshot::codec::decode;
@@ -14,18 +13,7 @@ ghost use lib.ListN.{length};
 ghost use Rattle.snapshot.specs.Widths.{snapshotSize, eventSize};
 ghost use Rattle.snapshot.specs.Snapshots.{encode, decode};
 ghost use Rattle.snapshot.specs.EventBytes.{stepEvent};
-ghost use Rattle.hsc.specs.Calls.{checkAnswer, stepVerdict, stepAnswer, stepAfter, readVerdict, readAnswer, readAfter};
-
-// 1 where the event is legal, 0 where it is not, 9 where it is not 12 bytes.
-#[no_mangle]
-pub extern "C" fn hsc_event_check(event: &[u8]) -> u32
-    ensures { λ r. ⌜ r ≡ checkAnswer (now (event .entry)) ⌝ }
-{
-    if event.len() != EVENT_SIZE {
-        return 9;
-    }
-    if legal_event(event, 0) { 1 } else { 0 }
-}
+ghost use Rattle.hsc.specs.Calls.{stepVerdict, stepAnswer, stepAfter};
 
 // What a step comes to.
 fn step_verdict(snapshot: &[u8], event: &[u8]) -> Answer
@@ -59,32 +47,6 @@ pub extern "C" fn hsc_step(snapshot: &mut [u8], event: &[u8]) -> u64
     let status = answer::status_of(step_verdict(snapshot, event));
     if status == 0 {
         step_over(snapshot, event);
-    }
-    status
-}
-
-// What a reading comes to.
-fn read_verdict(snapshot: &[u8]) -> Answer
-    ensures { λ r. ⌜ r ≡ readVerdict (now (snapshot .entry)) ⌝ }
-{
-    if snapshot.len() != SNAPSHOT_SIZE {
-        return Answer::WrongLength;
-    }
-    if !formed(snapshot, 0) {
-        return Answer::IllFormed;
-    }
-    Answer::Done
-}
-
-// Writes the state and the bits shown but not stored into fields. A refusal leaves them as they were.
-#[no_mangle]
-pub extern "C" fn hsc_read(snapshot: &[u8], fields: &mut [i32; 32]) -> u64
-    ensures { λ r. ⌜ r ≡ readAnswer (now (snapshot .entry)) ⌝ }
-    ensures { λ _. ⌜ now (fields .exit) ≡ readAfter (now (snapshot .entry)) (now (fields .entry)) ⌝ }
-{
-    let status = answer::status_of(read_verdict(snapshot));
-    if status == 0 {
-        fill(decode(snapshot, 0), fields);
     }
     status
 }

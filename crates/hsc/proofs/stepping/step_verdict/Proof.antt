@@ -1,4 +1,4 @@
--- `hsc::single::step_verdict` meets its contract: its tests are the definition's, in its order, on the whole buffers.
+-- `hsc::stepping::step_verdict` meets its contract: its tests are the definition's, in its order, on the whole buffers.
 use borrow.Author.Needs.{needs}
 use borrow.Author.Tests.{eq-eqb, ne-eqb}
 use mathlib.Core.Path.{ap₂, _∙_}
@@ -10,8 +10,8 @@ use Rattle.snapshot.specs.EventBytes.{legalEvent}
 use Rattle.hsc.specs.declared.answer.Answer.the-variants.{Done, IllegalEvent, IllFormed}
 use Rattle.hsc.specs.Calls.{stepVerdict}
 use Rattle.hsc.proofs.Whole.{of-whole}
-use Rattle.hsc.proofs.single.step_verdict.Statement.{statement}
-use Rattle.hsc.proofs.single.step_verdict.Tie as tie
+use Rattle.hsc.proofs.stepping.step_verdict.Statement.{statement}
+use Rattle.hsc.proofs.stepping.step_verdict.Tie as tie
 
 returns : tie.Need-returns
 unfolding stepVerdict

@@ -1,12 +1,12 @@
--- `hsc::single::hsc_event_check` meets its contract: its tests are the definition's, and the part of 12 bytes is the whole event.
+-- `hsc::checking::hsc_event_check` meets its contract: its tests are the definition's, and the part of 12 bytes is the whole event.
 use borrow.Author.Needs.{needs}
 use borrow.Author.Tests.{eq-eqb, ne-eqb}
 use denote.Ref.{now}
 use Rattle.snapshot.specs.EventBytes.{legalEvent}
 use Rattle.hsc.specs.Calls.{checkAnswer}
 use Rattle.hsc.proofs.Whole.{told-whole}
-use Rattle.hsc.proofs.single.hsc_event_check.Statement.{statement}
-use Rattle.hsc.proofs.single.hsc_event_check.Tie as tie
+use Rattle.hsc.proofs.checking.hsc_event_check.Statement.{statement}
+use Rattle.hsc.proofs.checking.hsc_event_check.Tie as tie
 
 returns : tie.Need-returns
 unfolding checkAnswer

@@ -1,4 +1,4 @@
--- `hsc::single::hsc_step` meets its contract: the status is the verdict's, and only at status 0, where both lengths are right, is the buffer written.
+-- `hsc::stepping::hsc_step` meets its contract: the status is the verdict's, and only at status 0, where both lengths are right, is the buffer written.
 use borrow.Author.Needs.{needs}
 use mathlib.Core.Path.{_≡_, sym, ap, _∙_}
 use denote.Ref.{now}
@@ -7,8 +7,8 @@ use Rattle.snapshot.specs.EventBytes.{stepEvent}
 use Rattle.hsc.specs.Status.{statusOf}
 use Rattle.hsc.specs.Calls.{stepVerdict, stepAnswer}
 use Rattle.hsc.proofs.Done.{done, refused, step-sized}
-use Rattle.hsc.proofs.single.hsc_step.Statement.{statement}
-use Rattle.hsc.proofs.single.hsc_step.Tie as tie
+use Rattle.hsc.proofs.stepping.hsc_step.Statement.{statement}
+use Rattle.hsc.proofs.stepping.hsc_step.Tie as tie
 
 abbrev entry : tie.After-status-of → tie.Start
 entry c = c .before .before .before .before .before
