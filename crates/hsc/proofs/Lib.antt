@@ -1,0 +1,6 @@
+-- Laws of the definitions, and laws for the proofs of the calls.
+pub mod Halves
+mod Widened
+mod Whole
+mod Rows
+mod Done

@@ -1,0 +1,4 @@
+-- What each call of the C surface answers, and what every lent buffer holds after.
+pub mod Status
+pub mod Fields
+pub mod Calls

@@ -1,0 +1,6 @@
+// The C surface: what the depot's program calls, with numbers and lent buffers. Document 01, "Trace image", has the refusals.
+pub mod answer;
+pub mod checking;
+pub mod filling;
+pub mod reading;
+pub mod stepping;

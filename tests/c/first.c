@@ -1,0 +1,168 @@
+/* Calls the library as the depot's program does: a fresh snapshot is stepped and read back, and every refusal is met.
+ * One line for each check; the first that fails ends the run with status 1.
+ *
+ *   rt staticlib hsc
+ *   cc -std=c11 -Wall -Wextra -Werror -pedantic -I include tests/c/first.c target/staticlib/libhsc.a -o target/first
+ *   target/first
+ */
+#include "hsc.h"
+
+#include <stdio.h>
+#include <stdlib.h>
+#include <string.h>
+
+static void check(const char *what, int holds) {
+    printf("%s: %s\n", holds ? "ok" : "FAILED", what);
+    if (!holds) {
+        exit(1);
+    }
+}
+
+static void put(uint8_t *bytes, size_t at, size_t width, uint32_t value) {
+    for (size_t i = 0; i < width; i++) {
+        bytes[at + i] = (uint8_t)(value >> (8 * i));
+    }
+}
+
+/* HIP and OVF 2147483647, LOP and UNF -2147483648 staged, LPM HPM UFM OFM 1, all else 0. */
+static void fresh(uint8_t snapshot[HSC_SNAPSHOT_SIZE]) {
+    memset(snapshot, 0, HSC_SNAPSHOT_SIZE);
+    put(snapshot, 4, 4, 0x7fffffff);
+    put(snapshot, 8, 4, 0x80000000);
+    put(snapshot, 12, 4, 0x7fffffff);
+    put(snapshot, 16, 4, 0x80000000);
+    put(snapshot, 60, 4, 0x780);
+}
+
+/* The stamp is never read: any will do. */
+static void event_of(uint8_t event[HSC_EVENT_SIZE], uint8_t kind, uint8_t sub, int32_t value) {
+    memset(event, 0, HSC_EVENT_SIZE);
+    event[0] = kind;
+    event[1] = sub;
+    put(event, 4, 4, (uint32_t)value);
+    put(event, 8, 4, 0xa5a5a5a5);
+}
+
+static void step(uint8_t snapshot[HSC_SNAPSHOT_SIZE], uint8_t kind, uint8_t sub, int32_t value) {
+    uint8_t event[HSC_EVENT_SIZE];
+    event_of(event, kind, sub, value);
+    if (hsc_step(snapshot, HSC_SNAPSHOT_SIZE, event, HSC_EVENT_SIZE) != 0) {
+        check("a legal event is taken", 0);
+    }
+}
+
+static void check_read(const char *what, const uint8_t *snapshot, const int32_t expected[HSC_FIELD_COUNT]) {
+    int32_t fields[HSC_FIELD_COUNT];
+    memset(fields, 0x5a, sizeof fields);
+    uint64_t status = hsc_read(snapshot, HSC_SNAPSHOT_SIZE, fields);
+    check(what, status == 0 && memcmp(fields, expected, sizeof fields) == 0);
+}
+
+/* The status, and a snapshot that is as it was. */
+static void check_refused(const char *what, uint64_t number, const uint8_t *snapshot, size_t snapshot_len, const uint8_t *event,
+                          size_t event_len) {
+    uint8_t lent[HSC_SNAPSHOT_SIZE + 1];
+    memcpy(lent, snapshot, sizeof lent);
+    uint64_t status = hsc_step(lent, snapshot_len, event, event_len);
+    check(what, status == number && memcmp(lent, snapshot, sizeof lent) == 0);
+}
+
+static void check_unread(const char *what, uint64_t number, const uint8_t *snapshot, size_t snapshot_len) {
+    int32_t fields[HSC_FIELD_COUNT], before[HSC_FIELD_COUNT];
+    memset(before, 0x5a, sizeof before);
+    memcpy(fields, before, sizeof fields);
+    uint64_t status = hsc_read(snapshot, snapshot_len, fields);
+    check(what, status == number && memcmp(fields, before, sizeof fields) == 0);
+}
+
+static void events(void) {
+    uint8_t event[HSC_EVENT_SIZE + 1] = {0};
+    event_of(event, 5, 0, 7);
+    check("ACC := 7 is legal", hsc_event_check(event, 12) == 1);
+    check("an event of 11 bytes is refused", hsc_event_check(event, 11) == 9);
+    check("an event of 13 bytes is refused", hsc_event_check(event, 13) == 9);
+    check("an event of 0 bytes is refused", hsc_event_check(event, 0) == 9);
+    event_of(event, 10, 0, 0);
+    check("kind 10 is not legal", hsc_event_check(event, 12) == 0);
+    event_of(event, 1, 0, 16);
+    check("a sample of 16 is not legal", hsc_event_check(event, 12) == 0);
+    event_of(event, 0, 0, 0);
+    event[2] = 1;
+    check("a blank with byte 2 set is not legal", hsc_event_check(event, 12) == 0);
+}
+
+static void steps(void) {
+    const int32_t low = INT32_MIN, high = INT32_MAX;
+    uint8_t snapshot[HSC_SNAPSHOT_SIZE], expected[HSC_SNAPSHOT_SIZE];
+    fresh(snapshot);
+    check_read("fresh is read back", snapshot,
+               (int32_t[HSC_FIELD_COUNT]){[2] = high, [3] = low, [4] = high, [5] = low, [21] = 0x780});
+
+    fresh(expected);
+    put(expected, 52, 4, 7);
+    step(snapshot, 5, 0, 7);
+    check("ACC := 7 changes ACC alone", memcmp(snapshot, expected, sizeof snapshot) == 0);
+    put(expected, 56, 2, 3);
+    step(snapshot, 9, 0, 3);
+    check("outputs := 3 changes outputs alone", memcmp(snapshot, expected, sizeof snapshot) == 0);
+    step(snapshot, 5, 0, -5);
+    step(snapshot, 2, 5, 65535);
+    step(snapshot, 3, 1, -2);
+    check_read("negative numbers and a whole word are read back", snapshot,
+               (int32_t[HSC_FIELD_COUNT]){
+                   [0] = -2, [2] = high, [3] = low, [4] = high, [5] = low, [7] = 65535, [18] = -5, [19] = 3, [21] = 0x780});
+
+    fresh(snapshot);
+    step(snapshot, 3, 1, 3);
+    step(snapshot, 3, 2, 2);
+    step(snapshot, 2, 1, 5);
+    step(snapshot, 4, 6, 1);
+    check_read("SP loads mode 2", snapshot,
+               (int32_t[HSC_FIELD_COUNT]){3, 2, 5, low, high, low, 0, 0, 0, 3, 2, 5, low, high, low, [21] = 0x807c0});
+    step(snapshot, 4, 5, 1);
+    step(snapshot, 4, 2, 1);
+    step(snapshot, 4, 0, 1);
+    step(snapshot, 5, 0, 4);
+    step(snapshot, 1, 0, 1);
+    check_read("a count onto HIP starts cause 2, and UIX, CU, CD and HPR are shown", snapshot,
+               (int32_t[HSC_FIELD_COUNT]){3, 2, 5, low, high, low, 0, 0, 0, 3, 2, 5, low, high, low, [18] = 5, [21] = 0x897e5,
+                                          [22] = 1, [23] = 2, [26] = 1, [28] = 1, [29] = 1, [30] = 1});
+    step(snapshot, 5, 0, 4);
+    step(snapshot, 1, 0, 0);
+    step(snapshot, 1, 0, 1);
+    step(snapshot, 5, 0, low);
+    check_read("a second one waits, and UIP and LPR are shown", snapshot,
+               (int32_t[HSC_FIELD_COUNT]){3, 2, 5, low, high, low, 0, 0, 0, 3, 2, 5, low, high, low, [18] = low, [21] = 0x897e5,
+                                          [22] = 1, [23] = 2, [24] = 2, [26] = 1, [27] = 1, [28] = 1, [29] = 1, [31] = 1});
+}
+
+static void refusals(void) {
+    uint8_t good[HSC_SNAPSHOT_SIZE + 1] = {0}, bad[HSC_SNAPSHOT_SIZE + 1] = {0};
+    uint8_t legal[HSC_EVENT_SIZE + 1] = {0}, illegal[HSC_EVENT_SIZE + 1] = {0};
+    fresh(good);
+    fresh(bad);
+    bad[64] = 16;
+    event_of(legal, 5, 0, 7);
+    event_of(illegal, 5, 1, 7);
+
+    check_refused("step: a snapshot of 67 bytes is refused by 9", 9, good, 67, legal, 12);
+    check_refused("step: a snapshot of 69 bytes is refused by 9", 9, good, 69, legal, 12);
+    check_refused("step: a snapshot of 0 bytes is refused by 9", 9, good, 0, legal, 12);
+    check_refused("step: an event of 11 bytes is refused by 9", 9, good, 68, legal, 11);
+    check_refused("step: an event of 13 bytes is refused by 9", 9, good, 68, legal, 13);
+    check_refused("step: an illegal event is refused by 5", 5, good, 68, illegal, 12);
+    check_refused("step: levels of 16 are refused by 6", 6, bad, 68, legal, 12);
+    check_refused("step: 5 goes before 6", 5, bad, 68, illegal, 12);
+    check_refused("step: 9 goes before 5 and 6", 9, bad, 67, illegal, 12);
+    check_unread("reading: a snapshot of 67 bytes is refused by 9", 9, good, 67);
+    check_unread("reading: a snapshot of 69 bytes is refused by 9", 9, good, 69);
+    check_unread("reading: levels of 16 are refused by 6", 6, bad, 68);
+    check_unread("reading: 9 goes before 6", 9, bad, 69);
+}
+
+int main(void) {
+    events();
+    steps();
+    refusals();
+    return 0;
+}
