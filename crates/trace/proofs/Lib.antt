@@ -3,5 +3,6 @@ pub mod Answers
 pub mod Legality
 pub mod Machine
 pub mod Accepted
+pub mod Turns
 pub mod Edits
 pub mod Theorem

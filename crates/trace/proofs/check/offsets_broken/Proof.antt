@@ -1,26 +1,22 @@
+-- `trace::check::offsets_broken` meets its contract: each test is one of the definition, and a quotient is at most what was divided.
 use borrow.Author.Needs.{needs}
+use native.Mathlib.Nat.{div-le-self}
+use native.Mathlib.Omega.{arith}
 use Rattle.trace.proofs.check.offsets_broken.Statement.{statement}
 use Rattle.trace.proofs.check.offsets_broken.Tie as tie
-use Rattle.trace.proofs.check.offsets_broken.Reads as reads
-use Rattle.trace.proofs.check.offsets_broken.Lts as lts
 
--- src/check.rt:35:38
 div-result : tie.Need-div-result
 div-result c = search needs
 
--- src/check.rt:35:38
 add-result : tie.Need-add-result
-add-result c = ?
+add-result c = omega (arith, div-le-self (c .args .count) (c .args .spacing))
 
--- src/check.rt:35:77
 mul-result : tie.Need-mul-result
 mul-result c = search needs
 
--- src/check.rt:35:72
 add-result-2 : tie.Need-add-result-2
 add-result-2 c = search needs
 
--- src/check.rt:31:1
 returns : tie.Need-returns
 returns c = search needs
 

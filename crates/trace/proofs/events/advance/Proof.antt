@@ -1,46 +1,55 @@
+-- `trace::events::advance` meets its contract. The invariant: `state` is the counter after the first i events; a turn is one event more.
+-- The measure is what is left of the events.
+use mathlib.Core.Path.{_≡_, sym, ap, _∙_}
+use Prim.Native.Nat.{_-_, _≤_}
+use native.Mathlib.Omega.{arith}
+use Rattle.replay.specs.Replay.{run}
+use Rattle.replay.proofs.Run.{run-zero}
+use Rattle.snapshot.specs.EventBytes.{stepEvent}
+use Rattle.trace.specs.Counting.{counting, stretch}
+use Rattle.trace.proofs.Turns.{run-next}
 use Rattle.trace.proofs.events.advance.Statement.{statement}
 use Rattle.trace.proofs.events.advance.Tie as tie
-use Rattle.trace.proofs.events.advance.Reads as reads
-use Rattle.trace.proofs.events.advance.Lts as lts
-use Rattle.snapshot.proofs.event.step_event.Reads as step-event-reads
 
 abbrev Inv-loop : tie.InvT-loop
-Inv-loop s at count state₀ i₀ state i = ?
+Inv-loop s at count state₀ i₀ state i = (i ≤ count) × (state ≡ run counting (stretch at) state₀ s 0 i)
 
 abbrev μ-loop : tie.MeasureT-loop
-μ-loop s at count state₀ i₀ state i = ?
+μ-loop s at count state₀ i₀ state i = count - i
 
--- src/events.rt:33:5
 loop-holds : tie.Need-loop-holds Inv-loop μ-loop
-loop-holds c = ?
+loop-holds c = (omega arith, sym (run-zero counting (stretch _) _ _ 0))
 
--- src/events.rt:34:50
 mul-step-event : tie.Need-mul-step-event Inv-loop μ-loop
-mul-step-event c = ?
+mul-step-event c = omega arith
 
--- src/events.rt:34:45
 add-step-event : tie.Need-add-step-event Inv-loop μ-loop
-add-step-event c = ?
+add-step-event c = omega arith
 
--- src/events.rt:34:9
 step-event-requires : tie.Need-step-event-requires Inv-loop μ-loop
-step-event-requires c κs = ?
+step-event-requires c κs = omega arith
 
--- src/events.rt:35:9
 add-i : tie.Need-add-i Inv-loop μ-loop
-add-i c = ?
+add-i c = omega arith
 
--- src/events.rt:33:5
 loop-less : tie.Need-loop-less Inv-loop μ-loop
-loop-less c = ?
+loop-less c = omega arith
 
--- src/events.rt:33:5
 loop-again : tie.Need-loop-again Inv-loop μ-loop
-loop-again c = ?
+loop-again c =
+    let at-loop = c .before .before in
+    let args = at-loop .before .before .args in (
+      omega arith,
+      c .step-event .ensures
+          ∙ ap (stepEvent _) (at-loop .loop .inv .1)
+          ∙ sym (run-next (args .start) (args .s .now) (args .at) (at-loop .loop .i)),
+    )
 
--- src/events.rt:27:1
 returns : tie.Need-returns Inv-loop μ-loop
-returns c = ?
+returns c =
+    let args = c .before .before .before .args in
+    let all : c .before .loop .i ≡ args .count = omega arith in
+    c .before .loop .inv .1 ∙ ap (run counting (stretch (args .at)) (args .start) (args .s .now) 0) all
 
 pub advance-spec : {M : Type 1} → statement M
 advance-spec =

@@ -1,50 +1,52 @@
+-- `trace::events::first_illegal` meets its contract. The invariant: scanning on from here finds what the whole scan finds. The measure is
+-- what is left of the events.
+use mathlib.Core.Path.{_≡_, refl, sym, ap, _∙_}
+use Prim.Native.Nat.{_-_, _≤_}
+use native.Mathlib.Omega.{arith}
+use borrow.Author.Tests.{not-true, not-false}
+use Rattle.trace.specs.Verdicts.{firstIllegal}
+use Rattle.trace.proofs.Legality.{scan-end, scan-stop, scan-next}
 use Rattle.trace.proofs.events.first_illegal.Statement.{statement}
 use Rattle.trace.proofs.events.first_illegal.Tie as tie
-use Rattle.trace.proofs.events.first_illegal.Reads as reads
-use Rattle.trace.proofs.events.first_illegal.Lts as lts
-use Rattle.snapshot.proofs.event.legal_event.Reads as legal-event-reads
 
 abbrev Inv-loop : tie.InvT-loop
-Inv-loop s at count i₀ i = ?
+Inv-loop s at count i₀ i = (i ≤ count) × (firstIllegal s at i (count - i) ≡ firstIllegal s at 0 count)
 
 abbrev μ-loop : tie.MeasureT-loop
-μ-loop s at count i₀ i = ?
+μ-loop s at count i₀ i = count - i
 
--- src/events.rt:17:5
 loop-holds : tie.Need-loop-holds Inv-loop μ-loop
-loop-holds c = ?
+loop-holds c = (omega arith, ap (firstIllegal _ _ 0) (omega arith))
 
--- src/events.rt:18:40
 mul-legal-event : tie.Need-mul-legal-event Inv-loop μ-loop
-mul-legal-event c = ?
+mul-legal-event c = omega arith
 
--- src/events.rt:18:35
 add-legal-event : tie.Need-add-legal-event Inv-loop μ-loop
-add-legal-event c = ?
+add-legal-event c = omega arith
 
--- src/events.rt:18:13
 legal-event-requires : tie.Need-legal-event-requires Inv-loop μ-loop
-legal-event-requires c κs = ?
+legal-event-requires c κs = omega arith
 
--- src/events.rt:19:13
 returns : tie.Need-returns Inv-loop μ-loop
-returns c = ?
+returns c =
+    let in-loop = c .before .before in
+    let illegal = sym (c .before .legal-event .ensures) ∙ not-true _ (c .if1 .taken) in
+    sym (scan-stop _ _ _ _ (in-loop .loop-test .taken) illegal) ∙ in-loop .before .loop .inv .1
 
--- src/events.rt:21:9
 add-i : tie.Need-add-i Inv-loop μ-loop
-add-i c = ?
+add-i c = omega arith
 
--- src/events.rt:17:5
 loop-less : tie.Need-loop-less Inv-loop μ-loop
-loop-less c = ?
+loop-less c = omega arith
 
--- src/events.rt:17:5
 loop-again : tie.Need-loop-again Inv-loop μ-loop
-loop-again c = ?
+loop-again c =
+    let in-loop = c .before .before in
+    let legal = sym (c .before .legal-event .ensures) ∙ not-false _ (c .if1 .left) in
+    (omega arith, sym (scan-next _ _ _ _ (in-loop .loop-test .taken) legal) ∙ in-loop .before .loop .inv .1)
 
--- src/events.rt:12:1
 returns-2 : tie.Need-returns-2 Inv-loop μ-loop
-returns-2 c = ?
+returns-2 c = sym (scan-end _ _ _ _ (c .loop-test .left)) ∙ c .before .loop .inv .1
 
 pub first-illegal-spec : {M : Type 1} → statement M
 first-illegal-spec =
