@@ -1,19 +1,25 @@
 -- One turn of each loop over the image, as the code takes it: an event at its byte, a stretch of K events, a snapshot written at its byte.
 use mathlib.Core.Path.{_≡_, refl, sym, ap, _∙_}
+use mathlib.Core.Bool.{Bool, true, false, _&&_}
 use mathlib.Core.List.{List, append-nil}
 use Prim.Native.Nat.{ℕ, _+_, _-_, _*_, _/_, _≤_, _<_}
-use native.Mathlib.Nat.{zero-add, le-refl}
+use native.Mathlib.Nat.{zero-add, le-refl, suc-mul}
+use native.Mathlib.Numerals.{add-one}
 use native.Mathlib.Omega.{arith}
+use lib.Dec.{leb}
 use lib.ListN.{length, drop-of-length-le}
 use Rattle.word.specs.Part.{part, put}
-use Rattle.replay.specs.Image.{event}
-use Rattle.replay.specs.Replay.{run}
-use Rattle.replay.proofs.Run.{run-suc}
+use Rattle.replay.specs.Image.{Shape, snapshots, event, snapshot, withSnapshot}
+use Rattle.replay.specs.Replay.{run, replayOn}
+use Rattle.replay.specs.Mend.{sameBytes, settled, outcome, mendOn}
+use Rattle.replay.proofs.Image.{spacing-within}
+use Rattle.replay.proofs.Run.{run-suc, run-add, run-moved, run-withSnapshot}
+use Rattle.replay.proofs.Loops.{replayOn-next, mendOn-stop, mendOn-next}
 use Rattle.counter.specs.declared.state.Counter.{Counter}
 use Rattle.snapshot.specs.EventBytes.{stepEvent}
 use Rattle.snapshot.specs.Snapshots.{encode}
 use Rattle.snapshot.proofs.RoundTrip.{length-encode}
-use Rattle.trace.specs.Counting.{counting, stretch}
+use Rattle.trace.specs.Counting.{counting, codec, shape, stretch}
 
 -- ---- events
 
@@ -30,8 +36,73 @@ run-next c bytes at i =
 -- bytes over the whole of a list as long
 pub put-all : (l bs : List ℕ) → length bs ≡ length l → put l 0 bs ≡ bs
 unfolding put
-put-all l bs e = rw (zero-add (length bs), e, drop-of-length-le (length l) l (le-refl (length l)), append-nil bs)
+put-all l bs e = rw (zero-add (length bs), e, drop-of-length-le l (le-refl (length l)), append-nil bs)
 
 -- a state's bytes, written over as many
 pub encoded : (l : List ℕ) (c : Counter) → length l ≡ 68 → put l 0 (encode c) ≡ encode c
 encoded l c e = put-all l (encode c) (length-encode c ∙ sym e)
+
+-- a comparison with a state's bytes
+pub compared : (image bytes : List ℕ) (at : ℕ) (c : Counter) (r : Bool) → bytes ≡ encode c → r ≡ sameBytes (part image at (length bytes)) bytes
+    → r ≡ sameBytes (part image at 68) (encode c)
+compared image bytes at c r e t =
+    t ∙ ap (λ (l : List ℕ). sameBytes (part image at (length l)) l) e ∙ ap (λ (n : ℕ). sameBytes (part image at n) (encode c)) (length-encode c)
+
+-- ---- a stretch of K events and a snapshot
+
+module _ (count spacing : ℕ) where
+  abbrev pub last : ℕ
+  last = count / spacing
+
+  -- the byte at which snapshot j begins
+  abbrev pub place : ℕ → ℕ
+  place j = 24 + count * 12 + j * 68
+
+  -- the length of an image of this shape
+  abbrev pub Long : List ℕ → Type 0
+  Long image = length image ≡ place (last + 1)
+
+  -- events from byte `at` on are those of the image from event i on
+  pub run-at : (s : Counter) (image : List ℕ) (i n : ℕ)
+      → run counting (stretch (24 + i * 12)) s image 0 n ≡ run counting (shape count spacing) s image i n
+  run-at s image i n = run-moved counting (stretch (24 + i * 12)) (shape count spacing) s image 0 i n (omega arith)
+
+  module _ (image : List ℕ) (j : ℕ) (s next : Counter) (h : j < last)
+      (r : next ≡ run counting (stretch (24 + j * spacing * 12)) s image 0 spacing) where
+    on : next ≡ run counting (shape count spacing) s image (j * spacing) spacing
+    on = r ∙ run-at s image (j * spacing) spacing
+
+    pub replay-turn : replayOn counting codec (shape count spacing) (last - j) j s image
+        ≡ replayOn counting codec (shape count spacing) (last - (j + 1)) (j + 1) next (put image (place (j + 1)) (encode next))
+    unfolding withSnapshot
+    replay-turn = replayOn-next counting codec (shape count spacing) j s next image h on
+
+    -- the events that are left give the same state
+    pub state-turn : Long image
+        → run counting (shape count spacing) s image (j * spacing) (count - j * spacing)
+        ≡ run counting (shape count spacing) next (put image (place (j + 1)) (encode next)) ((j + 1) * spacing) (count - (j + 1) * spacing)
+    unfolding withSnapshot
+    state-turn w =
+        let g : Shape = shape count spacing in
+        let more : (j + 1) * spacing ≡ j * spacing + spacing = ap (λ (k : ℕ). k * spacing) (add-one j) ∙ suc-mul j spacing in
+        let left : j * spacing + spacing ≤ count = spacing-within g h in
+        let split : count - j * spacing ≡ spacing + (count - (j + 1) * spacing) = omega arith in
+        let inside : j + 1 < snapshots g = omega arith in
+        ap (run counting g s image (j * spacing)) split
+        ∙ run-add counting g s image (j * spacing) spacing (count - (j + 1) * spacing)
+        ∙ (λ i. run counting g (sym on i) image (sym more i) (count - (j + 1) * spacing))
+        ∙ sym (run-withSnapshot counting codec g image w (j + 1) inside (encode next) (length-encode next) next ((j + 1) * spacing) (count - (j + 1) * spacing) (omega arith))
+
+    module _ (end : ℕ) where
+      abbrev stops : Bool
+      stops = leb end ((j + 1) * spacing) && sameBytes (part image (place (j + 1)) 68) (encode next)
+
+      pub mend-stop : stops ≡ true → mendOn counting codec (shape count spacing) end (last - j) j s image ≡ outcome image (j + 1)
+      unfolding settled snapshot
+      mend-stop t = mendOn-stop counting codec (shape count spacing) j s next image h on end t
+
+      pub mend-turn : stops ≡ false
+          → mendOn counting codec (shape count spacing) end (last - j) j s image
+          ≡ mendOn counting codec (shape count spacing) end (last - (j + 1)) (j + 1) next (put image (place (j + 1)) (encode next))
+      unfolding settled snapshot withSnapshot
+      mend-turn t = mendOn-next counting codec (shape count spacing) j s next image h on end t
