@@ -1,6 +1,6 @@
 -- One turn of each loop over the image, as the code takes it: an event at its byte, a stretch of K events, a snapshot written at its byte.
 use mathlib.Core.Path.{_≡_, refl, sym, ap, _∙_}
-use mathlib.Core.Bool.{Bool, true, false, _&&_}
+use mathlib.Core.Bool.{Bool, true, false, cond, _&&_}
 use mathlib.Core.List.{List, append-nil}
 use Prim.Native.Nat.{ℕ, _+_, _-_, _*_, _/_, _≤_, _<_}
 use native.Mathlib.Nat.{zero-add, le-refl, suc-mul}
@@ -93,16 +93,19 @@ module _ (count spacing : ℕ) where
         ∙ (λ i. run counting g (sym on i) image (sym more i) (count - (j + 1) * spacing))
         ∙ sym (run-withSnapshot counting codec g image w (j + 1) inside (encode next) (length-encode next) next ((j + 1) * spacing) (count - (j + 1) * spacing) (omega arith))
 
-    module _ (end : ℕ) where
-      abbrev stops : Bool
-      stops = leb end ((j + 1) * spacing) && sameBytes (part image (place (j + 1)) 68) (encode next)
-
-      pub mend-stop : stops ≡ true → mendOn counting codec (shape count spacing) end (last - j) j s image ≡ outcome image (j + 1)
+    -- the snapshot that follows was compared, and is written where it did not settle
+    module _ (end : ℕ) (t : Bool) (after : List ℕ) (told : t ≡ (leb end ((j + 1) * spacing) && sameBytes (part image (place (j + 1)) 68) (encode next)))
+        (left : after ≡ cond t image (put image (place (j + 1)) (encode next))) where
+      pub mend-stop : t ≡ true → outcome after (j + 1) ≡ mendOn counting codec (shape count spacing) end (last - j) j s image
       unfolding settled snapshot
-      mend-stop t = mendOn-stop counting codec (shape count spacing) j s next image h on end t
+      mend-stop e =
+          let kept : after ≡ image = rw e at left in
+          rw kept (sym (mendOn-stop counting codec (shape count spacing) j s next image h on end (sym told ∙ e)))
 
-      pub mend-turn : stops ≡ false
-          → mendOn counting codec (shape count spacing) end (last - j) j s image
-          ≡ mendOn counting codec (shape count spacing) end (last - (j + 1)) (j + 1) next (put image (place (j + 1)) (encode next))
+      pub mend-turn : t ≡ false
+          → mendOn counting codec (shape count spacing) end (last - (j + 1)) (j + 1) next after
+          ≡ mendOn counting codec (shape count spacing) end (last - j) j s image
       unfolding settled snapshot withSnapshot
-      mend-turn t = mendOn-next counting codec (shape count spacing) j s next image h on end t
+      mend-turn e =
+          let written : after ≡ put image (place (j + 1)) (encode next) = rw e at left in
+          rw written (sym (mendOn-next counting codec (shape count spacing) j s next image h on end (sym told ∙ e)))
