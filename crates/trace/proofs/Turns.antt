@@ -72,26 +72,30 @@ module _ (count spacing : ℕ) where
     on : next ≡ run counting (shape count spacing) s image (j * spacing) spacing
     on = r ∙ run-at s image (j * spacing) spacing
 
-    pub replay-turn : replayOn counting codec (shape count spacing) (last - j) j s image
-        ≡ replayOn counting codec (shape count spacing) (last - (j + 1)) (j + 1) next (put image (place (j + 1)) (encode next))
-    unfolding withSnapshot
-    replay-turn = replayOn-next counting codec (shape count spacing) j s next image h on
+    -- the snapshot that follows is written
+    module _ (after : List ℕ) (left : after ≡ put image (place (j + 1)) (encode next)) where
+      pub replay-turn : replayOn counting codec (shape count spacing) (last - (j + 1)) (j + 1) next after
+          ≡ replayOn counting codec (shape count spacing) (last - j) j s image
+      unfolding withSnapshot
+      replay-turn = rw left (sym (replayOn-next counting codec (shape count spacing) j s next image h on))
 
-    -- the events that are left give the same state
-    pub state-turn : Long image
-        → run counting (shape count spacing) s image (j * spacing) (count - j * spacing)
-        ≡ run counting (shape count spacing) next (put image (place (j + 1)) (encode next)) ((j + 1) * spacing) (count - (j + 1) * spacing)
-    unfolding withSnapshot
-    state-turn w =
-        let g : Shape = shape count spacing in
-        let more : (j + 1) * spacing ≡ j * spacing + spacing = ap (λ (k : ℕ). k * spacing) (add-one j) ∙ suc-mul j spacing in
-        let left : j * spacing + spacing ≤ count = spacing-within g h in
-        let split : count - j * spacing ≡ spacing + (count - (j + 1) * spacing) = omega arith in
-        let inside : j + 1 < snapshots g = omega arith in
-        ap (run counting g s image (j * spacing)) split
-        ∙ run-add counting g s image (j * spacing) spacing (count - (j + 1) * spacing)
-        ∙ (λ i. run counting g (sym on i) image (sym more i) (count - (j + 1) * spacing))
-        ∙ sym (run-withSnapshot counting codec g image w (j + 1) inside (encode next) (length-encode next) next ((j + 1) * spacing) (count - (j + 1) * spacing) (omega arith))
+      -- the events that are left give the same state
+      pub state-turn : Long image
+          → run counting (shape count spacing) next after ((j + 1) * spacing) (count - (j + 1) * spacing)
+          ≡ run counting (shape count spacing) s image (j * spacing) (count - j * spacing)
+      unfolding withSnapshot
+      state-turn w =
+          let g : Shape = shape count spacing in
+          let rest : ℕ = count - (j + 1) * spacing in
+          let more : (j + 1) * spacing ≡ j * spacing + spacing = ap (λ (k : ℕ). k * spacing) (add-one j) ∙ suc-mul j spacing in
+          let fits : j * spacing + spacing ≤ count = spacing-within g h in
+          let split : count - j * spacing ≡ spacing + rest = omega arith in
+          let inside : j + 1 < snapshots g = omega arith in
+          ap (λ (l : List ℕ). run counting g next l ((j + 1) * spacing) rest) left
+          ∙ run-withSnapshot counting codec g image w (j + 1) inside (encode next) (length-encode next) next ((j + 1) * spacing) rest (omega arith)
+          ∙ (λ i. run counting g (on i) image (more i) rest)
+          ∙ sym (run-add counting g s image (j * spacing) spacing rest)
+          ∙ ap (run counting g s image (j * spacing)) (sym split)
 
     -- the snapshot that follows was compared, and is written where it did not settle
     module _ (end : ℕ) (t : Bool) (after : List ℕ) (told : t ≡ (leb end ((j + 1) * spacing) && sameBytes (part image (place (j + 1)) 68) (encode next)))
