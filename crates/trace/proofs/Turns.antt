@@ -9,17 +9,20 @@ use native.Mathlib.Omega.{arith}
 use lib.Dec.{leb}
 use lib.ListN.{length, drop-of-length-le}
 use Rattle.word.specs.Part.{part, put}
-use Rattle.replay.specs.Image.{Shape, snapshots, event, snapshot, withSnapshot}
-use Rattle.replay.specs.Replay.{run, replayOn}
+use Rattle.replay.specs.Image.{Shape, snapshots, event, snapshot, withSnapshot, Valid}
+use Rattle.replay.specs.Replay.{run, replayOn, replayed}
 use Rattle.replay.specs.Mend.{sameBytes, settled, outcome, mendOn}
 use Rattle.replay.proofs.Image.{spacing-within}
 use Rattle.replay.proofs.Run.{run-suc, run-add, run-moved, run-withSnapshot}
-use Rattle.replay.proofs.Loops.{replayOn-next, mendOn-stop, mendOn-next}
+use Rattle.replay.proofs.Loops.{replay-start, replayOn-next, mendOn-stop, mendOn-next}
+use Rattle.replay.proofs.Theorem.{replay-replayed}
 use Rattle.counter.specs.declared.state.Counter.{Counter}
+use Rattle.counter.specs.WellFormed.{Good}
 use Rattle.snapshot.specs.EventBytes.{stepEvent}
 use Rattle.snapshot.specs.Snapshots.{encode}
 use Rattle.snapshot.proofs.RoundTrip.{length-encode}
 use Rattle.trace.specs.Counting.{counting, codec, shape, stretch}
+use Rattle.trace.proofs.Machine.{counter-laws}
 
 -- ---- events
 
@@ -113,3 +116,24 @@ module _ (count spacing : ℕ) where
       mend-turn e =
           let written : after ≡ put image (place (j + 1)) (encode next) = rw e at left in
           rw written (sym (mendOn-next counting codec (shape count spacing) j s next image h on end (sym told ∙ e)))
+
+-- ---- the whole of a replay
+
+-- snapshot 0 is written, and then the others
+module _ (count spacing : ℕ) (image : List ℕ) (v : Valid counting codec (shape count spacing) image) (start : Counter) (after : List ℕ)
+    (left : after ≡ put image (24 + count * 12) (encode start)) where
+  first-written : after ≡ withSnapshot counting codec (shape count spacing) image 0 (encode start)
+  unfolding withSnapshot
+  first-written = left ∙ ap (λ (at : ℕ). put image at (encode start)) (omega arith)
+
+  pub replay-whole : Good start → replayOn counting codec (shape count spacing) (last count spacing - 0) 0 start after
+      ≡ replayed counting codec (shape count spacing) start image
+  replay-whole good =
+      ap (replayOn counting codec (shape count spacing) (last count spacing - 0) 0 start) first-written
+      ∙ sym (replay-start counting codec (shape count spacing) start image)
+      ∙ replay-replayed counting codec counter-laws (shape count spacing) start good image v
+
+  pub state-whole : run counting (shape count spacing) start after 0 count ≡ run counting (shape count spacing) start image 0 count
+  state-whole =
+      ap (λ (l : List ℕ). run counting (shape count spacing) start l 0 count) first-written
+      ∙ run-withSnapshot counting codec (shape count spacing) image (v .whole) 0 (omega arith) (encode start) (length-encode start) start 0 count (omega arith)
