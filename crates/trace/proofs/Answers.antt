@@ -31,3 +31,26 @@ none-of false b e = (refl, e)
 pub both-passed : {A : Type 0} {x : A} (a : Answer Unit) (b : Answer A) → (a andThen b) ≡ given x → (a ≡ given tt) × (b ≡ given x)
 both-passed (refused n p) b e = absurd (refused-given e)
 both-passed (given tt) b e = (refl, e)
+
+-- ---- a verdict that the code gave
+
+module _ (v : Verdict) (a : Answer Unit) (told : verdictOf v ≡ a) where
+  module _ (r : Refusal) (e : v ≡ Refused r) where
+    pub refused-told : a ≡ refusal r
+    refused-told = sym told ∙ ap verdictOf e
+
+    pub refused-answer : {A : Type 0} (x y : Answer A) → (verdictOf v andThen x) ≡ (a andThen y)
+    refused-answer x y = ap (λ (t : Answer Unit). t andThen x) (ap verdictOf e) ∙ sym (ap (λ (t : Answer Unit). t andThen y) refused-told)
+
+    pub refused-kept : (old new : List ℕ) → old ≡ changedIf a old new
+    refused-kept old new = sym (ap (λ (t : Answer Unit). changedIf t old new) refused-told)
+
+  module _ (e : v ≡ Accepted) where
+    pub accepted-told : a ≡ given tt
+    accepted-told = sym told ∙ ap verdictOf e
+
+    pub accepted-answer : {A : Type 0} {x y : A} → x ≡ y → (verdictOf v andThen given x) ≡ (a andThen given y)
+    accepted-answer {A} {x} {y} h = ap (λ (t : Answer Unit). t andThen given x) told ∙ ap (λ (z : A). a andThen given z) h
+
+    pub accepted-changed : (old : List ℕ) {new after : List ℕ} → after ≡ new → after ≡ changedIf a old new
+    accepted-changed old {new} h = h ∙ sym (ap (λ (t : Answer Unit). changedIf t old new) accepted-told)
