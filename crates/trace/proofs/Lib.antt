@@ -1,0 +1,8 @@
+-- The laws of the trace image. `Theorem` states what a user of replay and mending asks for.
+pub mod Answers
+pub mod Legality
+pub mod Machine
+pub mod Accepted
+pub mod Turns
+pub mod Edits
+pub mod Theorem

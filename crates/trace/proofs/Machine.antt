@@ -1,0 +1,34 @@
+-- The counter keeps the laws of a machine and its codec: a legal event's value fits 32 bits, so its step keeps a good state good; a good
+-- state is read back from its 68 bytes.
+use Prim.Native.Nat.{_+_, _≤_}
+use native.Mathlib.Omega.{arith}
+use lib.ListN.{length}
+use mir.Syntax.{w32}
+use mir.Val.{Fits}
+use Rattle.word.specs.LittleEndian.{numberAt}
+use Rattle.word.proofs.LittleEndian.{numberAt-lt}
+use Rattle.word.proofs.TwosComplement.{sfits-signed}
+use Rattle.replay.specs.Machine.{Laws}
+use Rattle.counter.specs.declared.state.Counter.{Counter}
+use Rattle.counter.specs.WellFormed.{Good}
+use Rattle.counter.proofs.Steps.{step-good}
+use Rattle.snapshot.specs.EventBytes.{eventOf, stepEvent}
+use Rattle.snapshot.proofs.RoundTrip.{length-encode, decode-encode}
+use Rattle.trace.specs.Counting.{Legal, counting, codec}
+use mathlib.Core.List.{List}
+use Prim.Native.Nat.{ℕ}
+
+event-good : (c : Counter) (e : List ℕ) → Good c → Legal e → Good (stepEvent e c)
+unfolding stepEvent eventOf
+event-good c e good l =
+    let inside : 4 + 4 ≤ length e = omega (arith, l .whole) in
+    let value : Fits w32 (numberAt e 4 4) = record { fits = numberAt-lt e 4 4 (l .bytes) inside } in
+    step-good _ _ _ c (sfits-signed value) good
+
+pub counter-laws : Laws counting codec
+counter-laws =
+    record {
+      step-good = event-good;
+      length-encode = λ c good. length-encode c;
+      decode-encode = decode-encode;
+    }
