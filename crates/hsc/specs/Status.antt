@@ -1,5 +1,6 @@
 -- Document 01, "Trace image", the table of refusals: the number that C is given for each answer.
 use Prim.Native.Nat.{ℕ, _+_, _*_, _^_}
+use Rattle.trace.specs.Refusals as trace
 use Rattle.hsc.specs.declared.answer.Answer.{Answer}
 use Rattle.hsc.specs.declared.answer.Answer.the-variants.{Done, IllegalEvent, IllFormed, WrongLength}
 
@@ -27,3 +28,14 @@ after Done new old = new
 after IllegalEvent new old = old
 after IllFormed new old = old
 after WrongLength new old = old
+
+-- ---- replay and mending: the answers of crate `trace`
+
+abbrev pub statusOfTrace : {A : Type 0} → trace.Answer A → ℕ
+statusOfTrace (trace.refused number place) = status number place
+statusOfTrace (trace.given x) = 0
+
+-- a buffer that is lent for what was answered
+abbrev pub afterTrace : {A B : Type 0} → trace.Answer A → (A → B) → B → B
+afterTrace (trace.refused number place) show old = old
+afterTrace (trace.given x) show old = show x

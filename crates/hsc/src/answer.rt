@@ -1,7 +1,12 @@
 // What a call answers, and the number that C is given for it.
+use trace::refusal::Refusal;
+use trace::refusal::number_of;
+use trace::refusal::place_of;
 ghost use mathlib.Core.Path.{_≡_};
 ghost use mathlib.Core.Bool.{cond, not};
-ghost use Rattle.hsc.specs.Status.{statusOf};
+ghost use Prim.Native.Nat.{_≤_};
+ghost use Rattle.trace.specs.Refusals.{numberOf, placeOf};
+ghost use Rattle.hsc.specs.Status.{status, statusOf};
 
 // A step or a reading is done, or refused for one reason.
 pub enum Answer {
@@ -34,4 +39,12 @@ pub fn status_of(answer: Answer) -> u64
         Answer::IllFormed => 6,
         Answer::WrongLength => 9,
     }
+}
+
+// The status of a refusal of replay or mending; a place is at most the events' limit.
+pub fn status_of_refusal(refusal: Refusal) -> u64
+    requires { ⌜ placeOf refusal ≤ 1048576 ⌝ }
+    ensures { λ r. ⌜ r ≡ status (numberOf refusal) (placeOf refusal) ⌝ }
+{
+    number_of(refusal) + place_of(refusal) * 4294967296
 }

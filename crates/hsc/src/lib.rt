@@ -2,5 +2,7 @@
 pub mod answer;
 pub mod checking;
 pub mod filling;
+pub mod mending;
 pub mod reading;
+pub mod replaying;
 pub mod stepping;

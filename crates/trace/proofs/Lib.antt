@@ -4,5 +4,6 @@ pub mod Legality
 pub mod Machine
 pub mod Accepted
 pub mod Turns
+pub mod Bounds
 pub mod Edits
 pub mod Theorem

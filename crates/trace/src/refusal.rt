@@ -1,4 +1,6 @@
 // The refusals of document 01's table, and the verdict on what was lent.
+ghost use mathlib.Core.Path.{_≡_};
+ghost use Rattle.trace.specs.Refusals.{numberOf, placeOf};
 
 // Each refusal in the table's order; a place stands with those that have one.
 pub enum Refusal {
@@ -16,4 +18,37 @@ pub enum Refusal {
 pub enum Verdict {
     Refused(Refusal),
     Accepted,
+}
+
+pub fn number_of(refusal: Refusal) -> u64
+    ensures { λ r. ⌜ r ≡ numberOf refusal ⌝ }
+{
+    match refusal {
+        Refusal::Short => 1,
+        Refusal::Sizes => 2,
+        Refusal::Offsets => 3,
+        Refusal::Length => 4,
+        Refusal::Event(_) => 5,
+        Refusal::Snapshot(_) => 6,
+        Refusal::Patch => 7,
+        Refusal::PatchEvent(_) => 8,
+        Refusal::Buffer => 9,
+    }
+}
+
+// The place: that of the event or the snapshot, and 0 where the refusal has none.
+pub fn place_of(refusal: Refusal) -> u64
+    ensures { λ r. ⌜ r ≡ placeOf refusal ⌝ }
+{
+    match refusal {
+        Refusal::Short => 0,
+        Refusal::Sizes => 0,
+        Refusal::Offsets => 0,
+        Refusal::Length => 0,
+        Refusal::Event(i) => i as u64,
+        Refusal::Snapshot(j) => j as u64,
+        Refusal::Patch => 0,
+        Refusal::PatchEvent(i) => i as u64,
+        Refusal::Buffer => 0,
+    }
 }

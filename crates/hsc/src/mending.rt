@@ -1,0 +1,25 @@
+// The call that mends an image.
+use crate::answer::status_of_refusal;
+use trace::mending::Mending;
+use trace::mending::mend;
+ghost use mathlib.Core.Path.{_≡_};
+ghost use Rattle.trace.specs.Mends.{mendImage};
+ghost use Rattle.hsc.specs.Calls.{mendStatus, mendSpan};
+
+// Copies the patch over the events from place first on and mends the snapshots: span holds the first compared and the stop. A refusal
+// leaves image and span as they were.
+#[no_mangle]
+pub extern "C" fn hsc_mend(image: &mut [u8], first: u64, patch: &[u8], span: &mut [u32; 2]) -> u64
+    ensures { λ r. ⌜ r ≡ mendStatus (now (image .entry)) first (now (patch .entry)) ⌝ }
+    ensures { λ _. ⌜ now (image .exit) ≡ mendImage (now (image .entry)) first (now (patch .entry)) ⌝ }
+    ensures { λ _. ⌜ now (span .exit) ≡ mendSpan (now (image .entry)) first (now (patch .entry)) (now (span .entry)) ⌝ }
+{
+    match mend(image, first, patch) {
+        Mending::Refused(r) => status_of_refusal(r),
+        Mending::Mended { first, stop } => {
+            span[0] = first as u32;
+            span[1] = stop as u32;
+            0
+        }
+    }
+}

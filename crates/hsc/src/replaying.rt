@@ -1,0 +1,25 @@
+// The call that replays an image.
+use crate::answer::status_of_refusal;
+use snapshot::codec::encode;
+use trace::refusal::Verdict;
+use trace::replaying::replay;
+ghost use mathlib.Core.Path.{_≡_};
+ghost use Rattle.trace.specs.Replays.{replayImage};
+ghost use Rattle.hsc.specs.Calls.{replayStatus, replayLast};
+
+// Writes every snapshot anew, and the final state's into last. A refusal leaves both as they were.
+#[no_mangle]
+pub extern "C" fn hsc_replay(image: &mut [u8], last: &mut [u8; 68]) -> u64
+    ensures { λ r. ⌜ r ≡ replayStatus (now (image .entry)) ⌝ }
+    ensures { λ _. ⌜ now (image .exit) ≡ replayImage (now (image .entry)) ⌝ }
+    ensures { λ _. ⌜ now (last .exit) ≡ replayLast (now (image .entry)) (now (last .entry)) ⌝ }
+{
+    let replayed = replay(image);
+    match replayed.verdict {
+        Verdict::Refused(r) => status_of_refusal(r),
+        Verdict::Accepted => {
+            encode(replayed.last, last, 0);
+            0
+        }
+    }
+}
