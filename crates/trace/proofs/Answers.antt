@@ -42,8 +42,11 @@ module _ (v : Verdict) (a : Answer Unit) (told : verdictOf v ≡ a) where
     pub refused-first : (x : Answer Unit) → verdictOf v ≡ (a andThen x)
     refused-first x = ap verdictOf e ∙ sym (ap (λ (t : Answer Unit). t andThen x) refused-told)
 
+    pub refused-then : {A : Type 0} (x : Answer A) → refusal r ≡ (a andThen x)
+    refused-then x = sym (ap (λ (t : Answer Unit). t andThen x) refused-told)
+
     pub refused-answer : {A : Type 0} (x y : Answer A) → (verdictOf v andThen x) ≡ (a andThen y)
-    refused-answer x y = ap (λ (t : Answer Unit). t andThen x) (ap verdictOf e) ∙ sym (ap (λ (t : Answer Unit). t andThen y) refused-told)
+    refused-answer x y = ap (λ (t : Answer Unit). t andThen x) (ap verdictOf e) ∙ refused-then y
 
     pub refused-kept : (old new : List ℕ) → old ≡ changedIf a old new
     refused-kept old new = sym (ap (λ (t : Answer Unit). changedIf t old new) refused-told)
