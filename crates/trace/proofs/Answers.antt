@@ -39,8 +39,14 @@ module _ (v : Verdict) (a : Answer Unit) (told : verdictOf v ≡ a) where
     pub refused-told : a ≡ refusal r
     refused-told = sym told ∙ ap verdictOf e
 
+    pub refused-first : (x : Answer Unit) → verdictOf v ≡ (a andThen x)
+    refused-first x = ap verdictOf e ∙ sym (ap (λ (t : Answer Unit). t andThen x) refused-told)
+
+    pub refused-then : {A : Type 0} (x : Answer A) → refusal r ≡ (a andThen x)
+    refused-then x = sym (ap (λ (t : Answer Unit). t andThen x) refused-told)
+
     pub refused-answer : {A : Type 0} (x y : Answer A) → (verdictOf v andThen x) ≡ (a andThen y)
-    refused-answer x y = ap (λ (t : Answer Unit). t andThen x) (ap verdictOf e) ∙ sym (ap (λ (t : Answer Unit). t andThen y) refused-told)
+    refused-answer x y = ap (λ (t : Answer Unit). t andThen x) (ap verdictOf e) ∙ refused-then y
 
     pub refused-kept : (old new : List ℕ) → old ≡ changedIf a old new
     refused-kept old new = sym (ap (λ (t : Answer Unit). changedIf t old new) refused-told)
@@ -48,6 +54,9 @@ module _ (v : Verdict) (a : Answer Unit) (told : verdictOf v ≡ a) where
   module _ (e : v ≡ Accepted) where
     pub accepted-told : a ≡ given tt
     accepted-told = sym told ∙ ap verdictOf e
+
+    pub accepted-then : {A : Type 0} {x y : Answer A} → y ≡ x → y ≡ (a andThen x)
+    accepted-then {A} {x} h = h ∙ sym (ap (λ (t : Answer Unit). t andThen x) accepted-told)
 
     pub accepted-answer : {A : Type 0} {x y : A} → x ≡ y → (verdictOf v andThen given x) ≡ (a andThen given y)
     accepted-answer {A} {x} {y} h = ap (λ (t : Answer Unit). t andThen given x) told ∙ ap (λ (z : A). a andThen given z) h

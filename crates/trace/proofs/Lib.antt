@@ -3,6 +3,7 @@ pub mod Answers
 pub mod Legality
 pub mod Machine
 pub mod Accepted
+pub mod Mendable
 pub mod Turns
 pub mod Bounds
 pub mod Edits

@@ -9,17 +9,17 @@ use native.Mathlib.Omega.{arith}
 use lib.Dec.{leb}
 use lib.ListN.{length, drop-of-length-le}
 use Rattle.word.specs.Part.{part, put}
-use Rattle.replay.specs.Image.{Shape, snapshots, event, snapshot, withSnapshot, Valid}
+use Rattle.replay.specs.Image.{Shape, snapshots, event, snapshot, withSnapshot, changed, Valid}
 use Rattle.replay.specs.Replay.{run, replayOn, replayed}
-use Rattle.replay.specs.Mend.{sameBytes, settled, outcome, mendOn}
+use Rattle.replay.specs.Mend.{sameBytes, settled, outcome, mendOn, mend}
 use Rattle.replay.proofs.Image.{spacing-within}
 use Rattle.replay.proofs.Run.{run-suc, run-add, run-moved, run-withSnapshot}
-use Rattle.replay.proofs.Loops.{replay-start, replayOn-next, mendOn-stop, mendOn-next}
+use Rattle.replay.proofs.Loops.{replay-start, replayOn-next, mendOn-stop, mendOn-next, mend-start}
 use Rattle.replay.proofs.Theorem.{replay-replayed}
 use Rattle.counter.specs.declared.state.Counter.{Counter}
 use Rattle.counter.specs.WellFormed.{Good}
 use Rattle.snapshot.specs.EventBytes.{stepEvent}
-use Rattle.snapshot.specs.Snapshots.{encode}
+use Rattle.snapshot.specs.Snapshots.{encode, decode}
 use Rattle.snapshot.proofs.RoundTrip.{length-encode}
 use Rattle.trace.specs.Counting.{counting, codec, shape, stretch}
 use Rattle.trace.proofs.Machine.{counter-laws}
@@ -137,3 +137,13 @@ module _ (count spacing : ℕ) (image : List ℕ) (v : Valid counting codec (sha
   state-whole =
       ap (λ (l : List ℕ). run counting (shape count spacing) start l 0 count) first-written
       ∙ run-withSnapshot counting codec (shape count spacing) image (v .whole) 0 (omega arith) (encode start) (length-encode start) start 0 count (omega arith)
+
+-- ---- the whole of a mending
+
+-- the patch is copied, and mending goes on from the state that snapshot s holds
+pub mend-whole : (count spacing : ℕ) (image : List ℕ) (f n : ℕ) (patch after : List ℕ) (start : Counter)
+    → start ≡ decode (part image (place count spacing (f / spacing)) 68) → after ≡ put image (24 + f * 12) patch
+    → mendOn counting codec (shape count spacing) (f + n) (last count spacing - f / spacing) (f / spacing) start after
+    ≡ mend counting codec (shape count spacing) f n patch image
+unfolding changed snapshot
+mend-whole count spacing image f n patch after start s e = rw (s, e) (sym (mend-start counting codec (shape count spacing) f n patch image))

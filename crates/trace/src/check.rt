@@ -28,7 +28,13 @@ fn sizes_broken(count: usize, spacing: usize, zero: usize) -> bool
     (MAX_EVENTS < count) | (spacing == 0) | (MAX_SPACING < spacing) | !(zero == 0)
 }
 
-fn offsets_broken(count: usize, spacing: usize, events: usize, snapshots: usize, table: usize) -> bool
+fn offsets_broken(
+    count: usize,
+    spacing: usize,
+    events: usize,
+    snapshots: usize,
+    table: usize,
+) -> bool
     requires { ⌜ (0 < spacing) × (count ≤ 1048576) ⌝ }
     ensures { λ r. ⌜ r ≡ offsetsBroken count spacing events snapshots table ⌝ }
 {
