@@ -4,3 +4,4 @@ mod Widened
 mod Whole
 mod Rows
 mod Done
+mod Traced

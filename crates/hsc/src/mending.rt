@@ -3,8 +3,19 @@ use crate::answer::status_of_refusal;
 use trace::mending::Mending;
 use trace::mending::mend;
 ghost use mathlib.Core.Path.{_≡_};
+ghost use mathlib.Core.List.{[], _∷_};
+ghost use lib.ListN.{length};
 ghost use Rattle.trace.specs.Mends.{mendImage};
 ghost use Rattle.hsc.specs.Calls.{mendStatus, mendSpan};
+
+// Two numbers over two.
+fn write_span(span: &mut [u32], first: u32, stop: u32)
+    requires { ⌜ length (now span) ≡ 2 ⌝ }
+    ensures { λ _. ⌜ now (span .exit) ≡ first ∷ stop ∷ [] ⌝ }
+{
+    span[0] = first;
+    span[1] = stop;
+}
 
 // Copies the patch over the events from place first on and mends the snapshots: span holds the first compared and the stop. A refusal
 // leaves image and span as they were.
@@ -17,8 +28,7 @@ pub extern "C" fn hsc_mend(image: &mut [u8], first: u64, patch: &[u8], span: &mu
     match mend(image, first, patch) {
         Mending::Refused(r) => status_of_refusal(r),
         Mending::Mended { first, stop } => {
-            span[0] = first as u32;
-            span[1] = stop as u32;
+            write_span(span, first as u32, stop as u32);
             0
         }
     }

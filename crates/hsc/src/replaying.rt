@@ -15,7 +15,8 @@ pub extern "C" fn hsc_replay(image: &mut [u8], last: &mut [u8; 68]) -> u64
     ensures { λ _. ⌜ now (last .exit) ≡ replayLast (now (image .entry)) (now (last .entry)) ⌝ }
 {
     let replayed = replay(image);
-    match replayed.verdict {
+    let verdict = replayed.verdict;
+    match verdict {
         Verdict::Refused(r) => status_of_refusal(r),
         Verdict::Accepted => {
             encode(replayed.last, last, 0);
