@@ -1,6 +1,6 @@
 -- Laws of answers: a refusal is no other answer, a chain of tests that gives an answer had no test that refused, and a check that was
 -- passed leaves what comes after it.
-use mathlib.Core.Path.{_≡_, refl, sym, ap, _∙_, subst}
+use mathlib.Core.Path.{_≡_, refl, sym, ap, _∙_}
 use mathlib.Core.Bool.{Bool, true, false, cond, _||_, false≢true}
 use mathlib.Core.List.{List}
 use Prim.Native.Nat.{ℕ}

@@ -1,9 +1,7 @@
 // Document 01's trace image in a lent slice: its verdict, replay and mending.
 pub mod check;
 pub mod events;
+pub mod header;
 pub mod mending;
 pub mod refusal;
 pub mod replaying;
-
-// The bytes of an image's header.
-pub const HEADER_SIZE: usize = 24;

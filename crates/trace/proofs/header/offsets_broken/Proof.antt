@@ -1,9 +1,9 @@
--- `trace::check::offsets_broken` meets its contract: each test is one of the definition, and a quotient is at most what was divided.
+-- `trace::header::offsets_broken` meets its contract: each test is one of the definition, and a quotient is at most what was divided.
 use borrow.Author.Needs.{needs}
 use native.Mathlib.Nat.{div-le-self}
 use native.Mathlib.Omega.{arith}
-use Rattle.trace.proofs.check.offsets_broken.Statement.{statement}
-use Rattle.trace.proofs.check.offsets_broken.Tie as tie
+use Rattle.trace.proofs.header.offsets_broken.Statement.{statement}
+use Rattle.trace.proofs.header.offsets_broken.Tie as tie
 
 div-result : tie.Need-div-result
 div-result c = search needs
