@@ -31,6 +31,7 @@ fn append_state(s: &mut [u8], at: usize, acc: i32, out: u16) -> usize
 fn append_error(s: &mut [u8], at: usize, er: u16, flags: u32) -> usize
     requires { ⌜ at + 40 ≤ length (now s) ⌝ }
     ensures { λ r. ⌜ Appended (now (s .entry)) at (errorText er flags) (now (s .exit)) r ⌝ }
+    ensures { λ r. ⌜ r ≤ at + 40 ⌝ }
 {
     let a = text::append(s, at, b" er ");
     let b = text::append_decimal(s, a, er as u64);
@@ -51,6 +52,7 @@ pub fn replay_line(
 ) -> usize
     requires { ⌜ 160 ≤ length (now s) ⌝ }
     ensures { λ r. ⌜ take r (now (s .exit)) ≡ replayLine events snapshots acc out er flags ⌝ }
+    ensures { λ r. ⌜ r ≤ length (now (s .exit)) ⌝ }
 {
     let a = append_counts(s, 0, events, snapshots);
     let b = append_state(s, a, acc, out);
@@ -61,6 +63,7 @@ pub fn replay_line(
 pub fn refusal_line(s: &mut [u8], number: u64, place: u64) -> usize
     requires { ⌜ 160 ≤ length (now s) ⌝ }
     ensures { λ r. ⌜ take r (now (s .exit)) ≡ refusalLine number place ⌝ }
+    ensures { λ r. ⌜ r ≤ length (now (s .exit)) ⌝ }
 {
     let a = text::append(s, 0, b"refused ");
     let b = text::append_decimal(s, a, number);

@@ -60,7 +60,7 @@ returns c =
     let second = third .before .before .before .before .before in
     let first = second .before .before .before .before in
     let start = first .before .before .before .before in
-    appended-twice _ _ (appended-twice _ _ (appended-twice _ _ (appended-twice _ _ (first .append .ensures) (second .append-decimal .ensures)) (third .append2 .ensures)) (fourth .append-hex .ensures)) (fifth .append3 .ensures)
+    (appended-twice _ _ (appended-twice _ _ (appended-twice _ _ (appended-twice _ _ (first .append .ensures) (second .append-decimal .ensures)) (third .append2 .ensures)) (fourth .append-hex .ensures)) (fifth .append3 .ensures), omega (arith, first .append .ensures .place, second .append-decimal .ensures .place, third .append2 .ensures .place, fourth .append-hex .ensures .place, fifth .append3 .ensures .place, length-decimal 20 (start .args .er), length-digits 16 8 (start .args .flags)))
 
 pub append-error-spec : {M : Type 1} → statement M
 append-error-spec =

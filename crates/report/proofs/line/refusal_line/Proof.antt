@@ -60,7 +60,8 @@ returns c =
     let second = third .before .before .before .before .before in
     let first = second .before .before .before .before in
     let start = first .before .before .before .before in
-    (appended-twice _ _ (appended-twice _ _ (appended-twice _ _ (appended-twice _ _ (first .append .ensures) (second .append-decimal .ensures)) (third .append2 .ensures)) (fourth .append-decimal2 .ensures)) (fifth .append3 .ensures)) .text
+    let line = appended-twice _ _ (appended-twice _ _ (appended-twice _ _ (appended-twice _ _ (first .append .ensures) (second .append-decimal .ensures)) (third .append2 .ensures)) (fourth .append-decimal2 .ensures)) (fifth .append3 .ensures) in
+    (line .text, omega (arith, line .same, first .append .ensures .place, second .append-decimal .ensures .place, third .append2 .ensures .place, fourth .append-decimal2 .ensures .place, fifth .append3 .ensures .place, length-decimal 20 (start .args .number), length-decimal 20 (start .args .place), start .pre))
 
 pub refusal-line-spec : {M : Type 1} → statement M
 refusal-line-spec =

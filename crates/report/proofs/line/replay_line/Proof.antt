@@ -1,4 +1,5 @@
 -- `report::line::replay_line` meets its contract: three pieces in a row.
+use native.Mathlib.Omega.{arith}
 use Rattle.word.proofs.TwosComplement.{signed-unsigned}
 use Rattle.report.specs.Line.{replayLine}
 use Rattle.report.proofs.Pieces.{appended-twice}
@@ -26,7 +27,8 @@ returns c =
     let counts = state .before .before .before .before in
     let start = counts .before .before .before in
     let middle = rw (signed-unsigned (start .fits .acc)) at (state .append-state .ensures .0) in
-    (appended-twice _ _ (appended-twice _ _ (counts .append-counts .ensures .0) middle) (error .append-error .ensures)) .text
+    let line = appended-twice _ _ (appended-twice _ _ (counts .append-counts .ensures .0) middle) (error .append-error .ensures .0) in
+    (line .text, omega (arith, counts .append-counts .ensures .1, state .append-state .ensures .1, error .append-error .ensures .1, line .same, start .pre))
 
 pub replay-line-spec : {M : Type 1} → statement M
 replay-line-spec =

@@ -1,0 +1,16 @@
+-- Document 01, "The office program": the line for an image, by what replay answers.
+use mathlib.Core.List.{List}
+use Prim.Native.Nat.{ℕ}
+use Rattle.counter.specs.declared.state.Counter.{Counter}
+use Rattle.trace.specs.Refusals.{Answer, refused, given}
+use Rattle.trace.specs.Verdicts.{eventCount, snapshotCount}
+use Rattle.trace.specs.Replays.{replayAnswer}
+use Rattle.report.specs.Line.{replayLine, refusalLine}
+
+-- a refusal's line, or that of the counts and the final state
+abbrev pub lineOf : ℕ → ℕ → Answer Counter → List ℕ
+lineOf events snapshots (refused number place) = refusalLine number place
+lineOf events snapshots (given c) = replayLine events snapshots (c .acc) (c .out) (c .er) (c .flags)
+
+abbrev pub officeLine : List ℕ → List ℕ
+officeLine image = lineOf (eventCount image) (snapshotCount image) (replayAnswer image)

@@ -1,0 +1,52 @@
+// The office program: an image from standard input, and its line.
+use super::line::refusal_line;
+use super::line::replay_line;
+use libc::STDIN_FILENO;
+use libc::STDOUT_FILENO;
+use trace::header;
+use trace::refusal::Verdict;
+use trace::refusal::number_of;
+use trace::refusal::place_of;
+use trace::replaying::replay;
+ghost use mathlib.Core.Path.{_≡_};
+ghost use Prim.Native.Nat.{_≤_};
+ghost use lib.ListN.{length, take};
+ghost use Rattle.report.specs.Office.{officeLine};
+
+// Replays the image and puts its line at the front of a buffer; answers the line's length.
+pub fn answer(image: &mut [u8], line: &mut [u8]) -> usize
+    requires { ⌜ 160 ≤ length (now line) ⌝ }
+    ensures { λ r. ⌜ take r (now (line .exit)) ≡ officeLine (now (image .entry)) ⌝ }
+    ensures { λ r. ⌜ r ≤ length (now (line .exit)) ⌝ }
+{
+    let replayed = replay(image);
+    let verdict = replayed.verdict;
+    match verdict {
+        Verdict::Refused(r) => refusal_line(line, number_of(r), place_of(r)),
+        Verdict::Accepted => {
+            let events = header::number(image, header::EVENT_COUNT) as u64;
+            let snapshots = header::number(image, header::SNAPSHOT_COUNT) as u64;
+            let last = replayed.last;
+            replay_line(line, events, snapshots, last.acc, last.out, last.er, last.flags)
+        }
+    }
+}
+
+// Writes the image's line.
+fn tell(image: &mut [u8]) {
+    let mut line = [0u8; 160];
+    let n = answer(image, &mut line);
+    io::write_all(STDOUT_FILENO, &line[..n]);
+}
+
+// The whole program. One byte past the buffer is too long.
+pub fn run() {
+    let mut image = io::large_buffer();
+    let n = io::read_full(STDIN_FILENO, &mut image);
+    let mut more = [0u8; 1];
+    if io::read_full(STDIN_FILENO, &mut more) == 0 {
+        tell(&mut image[..n]);
+    } else {
+        io::write_all(STDOUT_FILENO, b"too long\n");
+    }
+}
