@@ -50,7 +50,7 @@ same-length c = search needs
 returns : tie.Need-returns
 returns c =
     let replay = c .before .before .before .before .before .before .replay in
-    (refused-status _ (refused-told (c .before)) (c .status-of-refusal .ensures), (replay .ensures .1, refused-after _ encode _ (refused-told (c .before))))
+    (refused-status _ (refused-told (c .before)) (c .status-of-refusal .ensures), (replay .ensures .1 .0, refused-after _ encode _ (refused-told (c .before))))
 
 same-length-2 : tie.Need-same-length-2
 same-length-2 c = search needs
@@ -62,7 +62,7 @@ returns-2 c =
     let old = now (told .before .before .before .before .before .before .before .args .last) in
     let last = replay .result .last in
     let written = c .encode .ensures ∙ put-whole old (encode last) (c .before .encode-arg .given .0 .1 ∙ sym (length-encode last)) in
-    (given-status _ _ (given-told told), (replay .ensures .1, given-after _ encode _ _ (given-told told) written))
+    (given-status _ _ (given-told told), (replay .ensures .1 .0, given-after _ encode _ _ (given-told told) written))
 
 pub hsc-replay-spec : {M : Type 1} → statement M
 hsc-replay-spec =
