@@ -124,5 +124,5 @@ int main(int count, char **words)
         outcome = ignore_size_signal();
     if (outcome == DONE)
         outcome = run(count, words);
-    return (int)finish_output(outcome);
+    return finish_output(outcome);
 }
