@@ -21,6 +21,8 @@ try 0 mend largest.trace 1048575 one-event.patch
 says out 'snapshots 1 from 1048576 stop 1048577'
 try 0 show largest.trace 1048576
 says out 'ACC      9'
+truncate -s $((12 * 1048576 + 12)) over.patch
+keep largest.trace refuse 7 0 mend largest.trace 0 over.patch
 rm largest.trace
 
 # Not read: the header decides.
@@ -39,6 +41,5 @@ refuse 4 0 mend tail.trace 0 one-event.patch
 verdict 'a huge image keeps its size' [ "$(stat -c %s tail.trace)" -eq 1099511627776 ]
 
 truncate -s 1T huge.patch
-truncate -s $((12 * 1048576 + 12)) over.patch
 keep two-events.trace refuse 7 0 mend two-events.trace 0 huge.patch
 keep two-events.trace refuse 7 0 mend two-events.trace 0 over.patch
