@@ -124,5 +124,6 @@ int main(int count, char **words)
         outcome = ignore_size_signal();
     if (outcome == DONE)
         outcome = run(count, words);
-    return finish_output(outcome);
+    outcome = finish_output(outcome);
+    return (int)outcome;
 }
