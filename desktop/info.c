@@ -7,7 +7,7 @@
 #include <inttypes.h>
 #include <stdio.h>
 
-static const char *const KIND_NAMES[HSC_KINDS] = {
+static const char *const KIND_NAMES[HSC_KIND_COUNT] = {
     "blank",    "input sample", "staged write", "programming device", "flag write",
     "ACC",      "preset load",  "routine done", "enter run",          "outputs",
 };
@@ -18,7 +18,7 @@ static uint8_t kind_at(const struct image *image, uint32_t place)
 }
 
 /* Counts legal events by kind; the first illegal one is refused. */
-static enum outcome count_kinds(const struct image *image, uint32_t counts[HSC_KINDS])
+static enum outcome count_kinds(const struct image *image, uint32_t counts[HSC_KIND_COUNT])
 {
     for (uint32_t place = 0; place < image->events; place++) {
         if (hsc_event_check(image_event(image, place), HSC_EVENT_SIZE) != 1)
@@ -49,7 +49,7 @@ static void print_gaps(const struct image *image)
 
 static enum outcome print_info(const struct image *image)
 {
-    uint32_t counts[HSC_KINDS] = {0};
+    uint32_t counts[HSC_KIND_COUNT] = {0};
     enum outcome outcome = count_kinds(image, counts);
 
     if (outcome != DONE)
@@ -58,7 +58,7 @@ static enum outcome print_info(const struct image *image)
     printf("events %" PRIu32 ", from byte %td\n", image->events, image_event(image, 0) - image->bytes);
     printf("snapshots %" PRIu32 ", from byte %td\n", image->snapshots, image_snapshot(image, 0) - image->bytes);
     printf("spacing %" PRIu32 "\n", image->spacing);
-    for (int kind = 0; kind < HSC_KINDS; kind++)
+    for (int kind = 0; kind < HSC_KIND_COUNT; kind++)
         printf("kind %d, %s: %" PRIu32 "\n", kind, KIND_NAMES[kind], counts[kind]);
     print_gaps(image);
     return DONE;

@@ -9,7 +9,7 @@
 
 static enum outcome print_state(const struct image *image, const uint8_t last[HSC_SNAPSHOT_SIZE])
 {
-    int32_t fields[HSC_FIELDS];
+    int32_t fields[HSC_FIELD_COUNT];
     uint64_t status = hsc_read(last, HSC_SNAPSHOT_SIZE, fields);
 
     if (status != 0)

@@ -8,7 +8,7 @@
 #include <inttypes.h>
 #include <stdio.h>
 
-static const char *const SETTING_NAMES[HSC_SETTINGS] = {
+static const char *const SETTING_NAMES[HSC_SETTING_COUNT] = {
     "PFN", "MOD", "HIP", "LOP", "OVF", "UNF", "OMB", "HPO", "LPO",
 };
 
@@ -17,7 +17,7 @@ static const char *const FLAG_NAMES[HSC_FLAG_COUNT] = {
     "OFM", "LPI", "HPI", "UFI", "OFI", "DIR", "UF", "OF",  "MD",  "loaded",
 };
 
-static const char *const SHOWN_NAMES[HSC_FIELDS - HSC_UIX] = {
+static const char *const SHOWN_NAMES[HSC_FIELD_COUNT - HSC_UIX] = {
     "UIX", "UIP", "CU", "CD", "HPR", "LPR",
 };
 
@@ -41,7 +41,7 @@ static void print_settings(const int32_t *fields)
     for (int setting = 0; setting < HSC_OMB; setting++)
         printf("%-8s %11" PRId32 " %11" PRId32 "\n", SETTING_NAMES[setting], fields[HSC_STAGED + setting],
                fields[HSC_ACTIVE + setting]);
-    for (int setting = HSC_OMB; setting < HSC_SETTINGS; setting++)
+    for (int setting = HSC_OMB; setting < HSC_SETTING_COUNT; setting++)
         printf("%-8s %11.4" PRIx32 " %11.4" PRIx32 "\n", SETTING_NAMES[setting],
                (uint32_t)fields[HSC_STAGED + setting], (uint32_t)fields[HSC_ACTIVE + setting]);
 }
@@ -67,10 +67,10 @@ static void print_shown(const int32_t *fields)
 {
     uint32_t bits = 0;
 
-    for (int field = HSC_UIX; field < HSC_FIELDS; field++)
+    for (int field = HSC_UIX; field < HSC_FIELD_COUNT; field++)
         bits |= (uint32_t)fields[field] << (field - HSC_UIX);
     printf("%-8s", "shown");
-    print_bits(bits, SHOWN_NAMES, HSC_FIELDS - HSC_UIX);
+    print_bits(bits, SHOWN_NAMES, HSC_FIELD_COUNT - HSC_UIX);
 }
 
 static void print_fields(const int32_t *fields)
@@ -93,7 +93,7 @@ static void print_fields(const int32_t *fields)
 /* The library reads one snapshot and refuses it at 0; the user is told its index. */
 static enum outcome show(const struct image *image, uint32_t j)
 {
-    int32_t fields[HSC_FIELDS];
+    int32_t fields[HSC_FIELD_COUNT];
     uint64_t status = hsc_read(image_snapshot(image, j), HSC_SNAPSHOT_SIZE, fields);
 
     if (status != 0)

@@ -61,7 +61,7 @@ enum hsc_kind {
     HSC_ROUTINE_DONE = 7,
     HSC_ENTER_RUN = 8,
     HSC_OUTPUT_WRITE = 9, /* the program's output word, 0-65535 */
-    HSC_KINDS = 10
+    HSC_KIND_COUNT = 10
 };
 
 /* A cause of interrupts, running or waiting. */
@@ -73,8 +73,8 @@ enum hsc_cause {
     HSC_OVERFLOW = 4
 };
 
-/* The settings' order, in the snapshot and in the fields. */
-enum hsc_setting {
+/* Indices into the fields of hsc_read; a setting is fields[HSC_STAGED + HSC_HIP], fields[HSC_ACTIVE + HSC_HIP]. */
+enum hsc_field {
     HSC_PFN = 0,
     HSC_MOD = 1,
     HSC_HIP = 2,
@@ -84,13 +84,9 @@ enum hsc_setting {
     HSC_OMB = 6,
     HSC_HPO = 7,
     HSC_LPO = 8,
-    HSC_SETTINGS = 9
-};
-
-/* Indices into the fields of hsc_read; a setting is fields[HSC_STAGED + HSC_HIP], fields[HSC_ACTIVE + HSC_HIP]. */
-enum hsc_field {
-    HSC_STAGED = 0,
-    HSC_ACTIVE = 9,
+    HSC_SETTING_COUNT = 9,
+    HSC_STAGED = 0, /* the nine settings from here */
+    HSC_ACTIVE = 9, /* and from here */
     HSC_ACC = 18,
     HSC_OUTPUTS = 19,
     HSC_ER = 20,
@@ -105,7 +101,7 @@ enum hsc_field {
     HSC_CD = 29,
     HSC_HPR = 30,
     HSC_LPR = 31,
-    HSC_FIELDS = 32
+    HSC_FIELD_COUNT = 32
 };
 
 /* The flags, by their bits in the flag word. */
@@ -164,14 +160,14 @@ uint64_t hsc_step(uint8_t *snapshot, size_t snapshot_len, const uint8_t *event, 
  * Reading: writes the snapshot's numbers, and the bits that are shown but not stored, into fields (enum hsc_field).
  * Refusals, first that applies: 9, 6, each at place 0.
  */
-uint64_t hsc_read(const uint8_t *snapshot, size_t snapshot_len, int32_t fields[32]);
+uint64_t hsc_read(const uint8_t *snapshot, size_t snapshot_len, int32_t fields[HSC_FIELD_COUNT]);
 
 /*
  * Replay: runs all events from a fresh counter, writes every snapshot of the image, and the state after the last
  * event into last, as a snapshot. The old table is not looked at; header and events stay.
  * Refusals, first that applies: 1 to 5.
  */
-uint64_t hsc_replay(uint8_t *image, size_t image_len, uint8_t last[68]);
+uint64_t hsc_replay(uint8_t *image, size_t image_len, uint8_t last[HSC_SNAPSHOT_SIZE]);
 
 /*
  * Mending: copies the n events of the patch over those from place first, and runs on from snapshot s = first/K.
