@@ -1,43 +1,184 @@
-/* One counter of the MicroLogix 1500 kind, in C or C++. Link with libhsc.a.
+/*
+ * hsc.h: the trace of a high-speed counter, checked, stepped, replayed and mended.
  *
- * A state is a snapshot of 68 bytes and an event has 12 bytes, both little-endian, as document 01 lays them out. Nothing is kept
- * between calls, and no call allocates. A pointer is valid for its length, is not null, and what a call writes overlaps nothing else
- * that it is lent.
+ * The calls take numbers and lent buffers and keep nothing from one call to the next. All numbers in the buffers are
+ * little-endian.
  *
- * A status is one number: 0 is done; else the low 32 bits are the number of the refusal and the high 32 its place.
+ *   snapshot, 68 bytes   0-25 staged settings: PFN, MOD (2 bytes each, signed), HIP, LOP, OVF, UNF (4, signed),
+ *                        OMB, HPO, LPO (2, unsigned); 26-51 active settings likewise; 52-55 ACC (signed);
+ *                        56-57 outputs; 58-59 ER; 60-63 flags; 64 input levels; 65 running cause;
+ *                        66 and 67 waiting causes, in order of arrival
+ *   event, 12 bytes      0 kind, 1 sub, 2-3 zero, 4-7 value (signed), 8-11 clock stamp, never read
+ *   trace image          header of six unsigned 4-byte numbers: event count E, event offset 24, snapshot count
+ *                        S = E/K + 1, snapshot offset 24 + 12E, spacing K, zero; then the events; then the table of
+ *                        snapshots, where snapshot j is the state before event jK and snapshot 0 is fresh
  *
- *   5  the event is not legal
- *   6  the snapshot is not well formed
- *   9  a snapshot is not 68 bytes, or an event not 12
- *
- * Here every place is 0. A refused call changes no buffer. */
+ * What is proved of each call takes this from the caller, and nothing more:
+ *   - each pointer is valid for its length (or for the array that the prototype names) until the call returns,
+ *   - no pointer is null, not even with length 0,
+ *   - no two buffers lent to one call overlap.
+ * What is in the buffers, and how long they are, is free: a call answers for all of it.
+ */
 #ifndef HSC_H
 #define HSC_H
 
 #include <stddef.h>
 #include <stdint.h>
 
-#define HSC_SNAPSHOT_SIZE 68
+#define HSC_VERSION "0.1.0"
+
+#define HSC_HEADER_SIZE 24
 #define HSC_EVENT_SIZE 12
-#define HSC_FIELD_COUNT 32
+#define HSC_SNAPSHOT_SIZE 68
+
+/* The most events of an image, and the widest spacing of its snapshots. */
+#define HSC_MAX_EVENTS 1048576
+#define HSC_MAX_SPACING 4096
+
+/* A refusal: its number, and what its place counts. */
+enum hsc_refusal {
+    HSC_DONE = 0,                /* no refusal */
+    HSC_REFUSED_SHORT = 1,       /* image under 24 bytes; place 0 */
+    HSC_REFUSED_LIMITS = 2,      /* E > 1048576, K = 0, K > 4096, or sixth number not 0; place 0 */
+    HSC_REFUSED_OFFSETS = 3,     /* event offset, S or snapshot offset is not what E and K ask for; place 0 */
+    HSC_REFUSED_LENGTH = 4,      /* image length is not snapshot offset + 68S; place 0 */
+    HSC_REFUSED_EVENT = 5,       /* illegal event; place: the first such */
+    HSC_REFUSED_SNAPSHOT = 6,    /* a snapshot that must be read is not well formed; place: its index */
+    HSC_REFUSED_PATCH = 7,       /* patch length not a multiple of 12, or first + n > E; place 0 */
+    HSC_REFUSED_PATCH_EVENT = 8, /* illegal event in the patch; place: the first such, in the patch */
+    HSC_REFUSED_SIZE = 9         /* snapshot not 68 bytes or event not 12; place 0 */
+};
+
+/* An event's kind, its byte 0. */
+enum hsc_kind {
+    HSC_BLANK = 0,
+    HSC_INPUT_SAMPLE = 1, /* value 0-15, bit n is input n */
+    HSC_STAGED_WRITE = 2, /* sub: 1 HIP, 2 LOP, 3 OVF, 4 UNF, 5 HPO, 6 LPO */
+    HSC_DEVICE_WRITE = 3, /* programming device; sub: 1 PFN, 2 MOD, 3 OMB, 4 AS */
+    HSC_FLAG_WRITE = 4,   /* sub: the flag's bit */
+    HSC_ACC_WRITE = 5,
+    HSC_PRESET_LOAD = 6,
+    HSC_ROUTINE_DONE = 7,
+    HSC_ENTER_RUN = 8,
+    HSC_OUTPUT_WRITE = 9, /* the program's output word, 0-65535 */
+    HSC_KIND_COUNT = 10
+};
+
+/* A cause of interrupts, running or waiting. */
+enum hsc_cause {
+    HSC_NO_CAUSE = 0,
+    HSC_LOW_PRESET = 1,
+    HSC_HIGH_PRESET = 2,
+    HSC_UNDERFLOW = 3,
+    HSC_OVERFLOW = 4
+};
+
+/* Indices into the fields of hsc_read; a setting is fields[HSC_STAGED + HSC_HIP], fields[HSC_ACTIVE + HSC_HIP]. */
+enum hsc_field {
+    HSC_PFN = 0,
+    HSC_MOD = 1,
+    HSC_HIP = 2,
+    HSC_LOP = 3,
+    HSC_OVF = 4,
+    HSC_UNF = 5,
+    HSC_OMB = 6,
+    HSC_HPO = 7,
+    HSC_LPO = 8,
+    HSC_SETTING_COUNT = 9,
+    HSC_STAGED = 0, /* the nine settings from here */
+    HSC_ACTIVE = 9, /* and from here */
+    HSC_ACC = 18,
+    HSC_OUTPUTS = 19,
+    HSC_ER = 20,
+    HSC_FLAGS = 21,
+    HSC_LEVELS = 22,
+    HSC_RUNNING = 23,
+    HSC_FIRST_WAITING = 24,
+    HSC_SECOND_WAITING = 25,
+    HSC_UIX = 26, /* from here on: shown but not stored. A cause runs */
+    HSC_UIP = 27, /* a cause waits */
+    HSC_CU = 28,
+    HSC_CD = 29,
+    HSC_HPR = 30,
+    HSC_LPR = 31,
+    HSC_FIELD_COUNT = 32
+};
+
+/* The flags, by their bits in the flag word. */
+enum hsc_flag {
+    HSC_FLAG_UIE = 0,
+    HSC_FLAG_UIL = 1,
+    HSC_FLAG_FE = 2,
+    HSC_FLAG_AS = 3,
+    HSC_FLAG_ED = 4,
+    HSC_FLAG_CE = 5,
+    HSC_FLAG_SP = 6,
+    HSC_FLAG_LPM = 7,
+    HSC_FLAG_HPM = 8,
+    HSC_FLAG_UFM = 9,
+    HSC_FLAG_OFM = 10,
+    HSC_FLAG_LPI = 11,
+    HSC_FLAG_HPI = 12,
+    HSC_FLAG_UFI = 13,
+    HSC_FLAG_OFI = 14,
+    HSC_FLAG_DIR = 15,
+    HSC_FLAG_UF = 16,
+    HSC_FLAG_OF = 17,
+    HSC_FLAG_MD = 18,
+    HSC_FLAG_LOADED = 19,
+    HSC_FLAG_COUNT = 20
+};
 
 #ifdef __cplusplus
 extern "C" {
 #endif
 
-/* Whether the event is legal: 1 yes, 0 no; 9 if it is not 12 bytes. */
+/* The refusal's number in a status: an enum hsc_refusal, HSC_DONE where the call was done. */
+static inline uint32_t hsc_number(uint64_t status)
+{
+    return (uint32_t)(status & UINT32_MAX);
+}
+
+/* The refusal's place in a status, counted from 0. */
+static inline uint32_t hsc_place(uint64_t status)
+{
+    return (uint32_t)(status >> 32);
+}
+
+/* The calls that answer a status answer 0 where they are done. On a refusal every lent buffer is as it was. */
+
+/* Whether the event is legal: 1 yes, 0 no, 9 (HSC_REFUSED_SIZE) if it is not 12 bytes. Writes nothing. */
 uint32_t hsc_event_check(const uint8_t *event, size_t event_len);
 
-/* Takes the event: the next snapshot is written over the lent one. Refused by 9, 5 and 6, the first that applies in this order. */
+/*
+ * One step: writes the snapshot after the event over the lent one.
+ * Refusals, first that applies: 9, 5, 6, each at place 0.
+ */
 uint64_t hsc_step(uint8_t *snapshot, size_t snapshot_len, const uint8_t *event, size_t event_len);
 
-/* Writes the state as 32 numbers. Refused by 9 and 6, the first that applies in this order.
- *
- *   0-8    staged PFN, MOD, HIP, LOP, OVF, UNF, OMB, HPO, LPO
- *   9-17   active, the same nine
- *   18-25  ACC, outputs, ER, flags, levels, running cause, first and second waiting cause
- *   26-31  the bits shown but not stored, each 0 or 1: UIX, UIP, CU, CD, HPR, LPR */
+/*
+ * Reading: writes the snapshot's numbers, and the bits that are shown but not stored, into fields (enum hsc_field).
+ * Refusals, first that applies: 9, 6, each at place 0.
+ */
 uint64_t hsc_read(const uint8_t *snapshot, size_t snapshot_len, int32_t fields[HSC_FIELD_COUNT]);
+
+/*
+ * Replay: runs all events from a fresh counter, writes every snapshot of the image, and the state after the last
+ * event into last, as a snapshot. The old table is not looked at; header and events stay.
+ * Refusals, first that applies: 1 to 5.
+ */
+uint64_t hsc_replay(uint8_t *image, size_t image_len, uint8_t last[HSC_SNAPSHOT_SIZE]);
+
+/*
+ * Mending: copies the n events of the patch over those from place first, and runs on from snapshot s = first/K.
+ * At each snapshot j > s it compares before it writes: at or past the run's end (jK >= first + n) it stops at the
+ * first j whose stored bytes agree with the state. span becomes s + 1 and the stop, S if there was none: snapshots
+ * span[0] to span[1] - 1 were written. n = 0 is legal.
+ * If the old table is what replay writes, the image is then what replay makes of the changed events, byte for byte.
+ * Refusals, first that applies: 1 to 5 for the image as it was, 7, 8, then 6 for snapshot s.
+ */
+uint64_t hsc_mend(uint8_t *image, size_t image_len, uint64_t first, const uint8_t *patch, size_t patch_len,
+                  uint32_t span[2]);
 
 #ifdef __cplusplus
 }

@@ -1,0 +1,37 @@
+/* A trace image in memory, read from its file and written back whole. */
+#ifndef IMAGE_H
+#define IMAGE_H
+
+#include "tell.h"
+
+#include <stddef.h>
+#include <stdint.h>
+#include <sys/stat.h>
+
+struct image {
+    const char *path;
+    struct stat status; /* of the file that was read */
+    uint8_t *bytes;
+    size_t size;
+    uint32_t events;
+    uint32_t snapshots;
+    uint32_t spacing;
+};
+
+/*
+ * Reads an image to which none of refusals 1 to 4 applies; events and snapshots are not looked at. A file of the wrong
+ * length is refused when its header has been read, whatever its size. flags: O_RDONLY, or O_RDWR where image_write is
+ * to follow. Where it is done, image_free is owed.
+ */
+enum outcome image_load(struct image *image, const char *path, int flags);
+
+/* Puts the image's bytes in the place of its file. */
+enum outcome image_write(const struct image *image);
+
+void image_free(struct image *image);
+
+const uint8_t *image_event(const struct image *image, uint32_t place);
+
+const uint8_t *image_snapshot(const struct image *image, uint32_t index);
+
+#endif

@@ -1,0 +1,56 @@
+/* What the program says on standard error. Nothing is left to be done where that cannot be written. */
+#include "tell.h"
+
+#include "hsc.h"
+
+#include <errno.h>
+#include <inttypes.h>
+#include <stdio.h>
+#include <string.h>
+
+enum outcome tell_failure(const char *subject, const char *reason)
+{
+    fprintf(stderr, "hsc: %s: %s\n", subject, reason);
+    return FAILED;
+}
+
+enum outcome tell_errno(const char *subject, const char *action)
+{
+    fprintf(stderr, "hsc: %s: %s: %s\n", subject, action, strerror(errno));
+    return FAILED;
+}
+
+static const char *refusal_words(uint32_t number)
+{
+    switch (number) {
+    case HSC_REFUSED_SHORT:
+        return "the image is under 24 bytes";
+    case HSC_REFUSED_LIMITS:
+        return "more than 1048576 events, a spacing that is not 1 to 4096, or a sixth number that is not 0";
+    case HSC_REFUSED_OFFSETS:
+        return "the event offset, snapshot count or snapshot offset is not what event count and spacing ask for";
+    case HSC_REFUSED_LENGTH:
+        return "the image's length is not what its header asks for";
+    case HSC_REFUSED_EVENT:
+        return "this event of the image is not legal";
+    case HSC_REFUSED_SNAPSHOT:
+        return "this snapshot is not well formed";
+    case HSC_REFUSED_PATCH:
+        return "the patch is not a row of 12-byte events, or goes past the image's last event";
+    case HSC_REFUSED_PATCH_EVENT:
+        return "this event of the patch is not legal";
+    case HSC_REFUSED_SIZE:
+        return "a snapshot that is not 68 bytes, or an event that is not 12";
+    default:
+        return "a refusal that this program does not know";
+    }
+}
+
+enum outcome tell_refusal(const char *subject, uint64_t status)
+{
+    uint32_t number = hsc_number(status);
+
+    fprintf(stderr, "hsc: %s: refused %" PRIu32 " at %" PRIu32 ": %s\n", subject, number, hsc_place(status),
+            refusal_words(number));
+    return REFUSED;
+}

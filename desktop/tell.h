@@ -1,0 +1,23 @@
+/* What the program says on standard error, and how a command ends. */
+#ifndef TELL_H
+#define TELL_H
+
+#include <stdint.h>
+
+/* How a command ends; the program's exit status. */
+enum outcome {
+    DONE = 0,
+    REFUSED = 1,
+    FAILED = 2
+};
+
+/* Tells in words why something failed, and answers FAILED. */
+enum outcome tell_failure(const char *subject, const char *reason);
+
+/* Tells which action on the subject failed, with the text of errno, and answers FAILED. */
+enum outcome tell_errno(const char *subject, const char *action);
+
+/* Tells a refusal in words, with its number and place, and answers REFUSED. */
+enum outcome tell_refusal(const char *subject, uint64_t status);
+
+#endif

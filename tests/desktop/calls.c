@@ -1,0 +1,103 @@
+/* The five calls through the header, as C and as C++: each done and refused, with guard bytes behind what is lent. */
+#include "hsc.h"
+
+#include <stdio.h>
+#include <string.h>
+
+#define GUARD 0xa5
+#define IMAGE_SIZE (HSC_HEADER_SIZE + 2 * HSC_EVENT_SIZE + 3 * HSC_SNAPSHOT_SIZE)
+
+static int failures;
+
+static void expect(int holds, const char *what)
+{
+    if (!holds) {
+        fprintf(stderr, "calls: %s\n", what);
+        failures++;
+    }
+}
+
+static uint64_t refusal(uint64_t number, uint64_t place)
+{
+    return place << 32 | number;
+}
+
+static void check_events(void)
+{
+    const uint8_t good[HSC_EVENT_SIZE] = {HSC_ACC_WRITE, 0, 0, 0, 7, 0, 0, 0, 1, 2, 3, 4};
+    const uint8_t bad[HSC_EVENT_SIZE] = {HSC_KIND_COUNT, 0, 0, 0, 0, 0, 0, 0, 0, 0, 0, 0};
+
+    expect(hsc_event_check(good, sizeof good) == 1, "a legal event is legal");
+    expect(hsc_event_check(bad, sizeof bad) == 0, "kind 10 is not legal");
+    expect(hsc_event_check(good, 11) == HSC_REFUSED_SIZE, "11 bytes are refused");
+    expect(hsc_event_check(good, 0) == HSC_REFUSED_SIZE, "no bytes are refused");
+}
+
+static void check_single(const uint8_t fresh[HSC_SNAPSHOT_SIZE])
+{
+    const uint8_t event[HSC_EVENT_SIZE] = {HSC_ACC_WRITE, 0, 0, 0, 0xfe, 0xff, 0xff, 0xff, 0, 0, 0, 0};
+    const uint8_t bad[HSC_EVENT_SIZE] = {HSC_ACC_WRITE, 1, 0, 0, 0, 0, 0, 0, 0, 0, 0, 0};
+    uint8_t snapshot[HSC_SNAPSHOT_SIZE];
+    int32_t fields[HSC_FIELD_COUNT + 1];
+
+    memcpy(snapshot, fresh, sizeof snapshot);
+    fields[HSC_ACC] = 5;
+    fields[HSC_FIELD_COUNT] = 6;
+    expect(hsc_step(snapshot, sizeof snapshot, bad, sizeof bad) == refusal(5, 0), "step refuses an illegal event");
+    expect(hsc_step(snapshot, sizeof snapshot, event, 11) == refusal(9, 0), "step refuses 11 bytes");
+    expect(memcmp(snapshot, fresh, sizeof snapshot) == 0, "a refused step leaves the snapshot");
+    expect(hsc_read(snapshot, 67, fields) == refusal(9, 0), "reading refuses 67 bytes");
+    expect(fields[HSC_ACC] == 5, "a refused reading leaves the fields");
+    expect(hsc_step(snapshot, sizeof snapshot, event, sizeof event) == HSC_DONE, "step is done");
+    expect(hsc_read(snapshot, sizeof snapshot, fields) == HSC_DONE, "reading is done");
+    expect(fields[HSC_ACC] == -2, "ACC is written");
+    expect(fields[HSC_STAGED + HSC_HIP] == INT32_MAX && fields[HSC_ACTIVE + HSC_HIP] == 0, "HIP is fresh");
+    expect(fields[HSC_FLAGS] >> HSC_FLAG_LPM == 15 && fields[HSC_FLAGS] % (1 << HSC_FLAG_LPM) == 0, "flags are fresh");
+    expect(fields[HSC_FIELD_COUNT] == 6, "nothing behind the fields is written");
+    snapshot[65] = 5;
+    expect(hsc_read(snapshot, sizeof snapshot, fields) == refusal(6, 0), "reading refuses cause 5");
+}
+
+static void check_image(const uint8_t image[IMAGE_SIZE])
+{
+    const uint8_t patch[2 * HSC_EVENT_SIZE] = {HSC_ACC_WRITE, 0, 0, 0, 9, 0, 0, 0, 0, 0, 0, 0, HSC_KIND_COUNT};
+    uint8_t bytes[IMAGE_SIZE + 1];
+    uint8_t last[HSC_SNAPSHOT_SIZE + 1];
+    uint32_t span[3] = {40, 41, 42};
+
+    memcpy(bytes, image, IMAGE_SIZE);
+    bytes[IMAGE_SIZE] = GUARD;
+    memset(last, GUARD, sizeof last);
+    expect(hsc_replay(bytes, IMAGE_SIZE - 1, last) == refusal(4, 0), "replay refuses a wrong length");
+    expect(last[0] == GUARD, "a refused replay leaves the last state");
+    expect(hsc_replay(bytes, IMAGE_SIZE, last) == HSC_DONE, "replay is done");
+    expect(memcmp(bytes, image, IMAGE_SIZE) == 0, "replay of a true table leaves it");
+    expect(memcmp(last, image + IMAGE_SIZE - HSC_SNAPSHOT_SIZE, HSC_SNAPSHOT_SIZE) == 0, "last is snapshot 2");
+
+    expect(hsc_mend(bytes, IMAGE_SIZE, UINT64_MAX, patch, 12, span) == refusal(7, 0), "first + n does not wrap");
+    expect(hsc_number(hsc_mend(bytes, IMAGE_SIZE, 0, patch, 24, span)) == HSC_REFUSED_PATCH_EVENT, "8 has its number");
+    expect(hsc_place(hsc_mend(bytes, IMAGE_SIZE, 0, patch, 24, span)) == 1, "8 has its place");
+    expect(memcmp(bytes, image, IMAGE_SIZE) == 0 && span[0] == 40 && span[1] == 41, "a refused mend leaves all");
+    expect(hsc_mend(bytes, IMAGE_SIZE, 2, patch, 0, span) == HSC_DONE, "no events at the end are mended");
+    expect(span[0] == 3 && span[1] == 3, "no snapshot is after the last");
+    expect(hsc_mend(bytes, IMAGE_SIZE, 0, patch, 12, span) == HSC_DONE, "mending is done");
+    expect(span[0] == 1 && span[1] == 3, "snapshots 1 and 2 are written");
+    expect(bytes[IMAGE_SIZE] == GUARD && last[HSC_SNAPSHOT_SIZE] == GUARD && span[2] == 42, "no more is written");
+}
+
+/* The operand is the path of the image of two events. */
+int main(int count, char **words)
+{
+    uint8_t image[IMAGE_SIZE];
+    FILE *file = count == 2 ? fopen(words[1], "rb") : NULL;
+
+    if (file == NULL || fread(image, 1, sizeof image, file) != sizeof image) {
+        fprintf(stderr, "calls: the image cannot be read\n");
+        return 2;
+    }
+    fclose(file);
+    check_events();
+    check_single(image + HSC_HEADER_SIZE + 2 * HSC_EVENT_SIZE);
+    check_image(image);
+    return failures == 0 ? 0 : 1;
+}

@@ -1,0 +1,68 @@
+# Standard streams that are full or closed, and disks that are.
+
+for words in --help --version 'info two-events.trace' 'check two-events.trace' 'show two-events.trace 0' \
+    'replay two-events.trace'; do
+    status=0
+    "$PROGRAM" $words > /dev/full 2> err || status=$?
+    verdict "hsc $words > /dev/full: exit status $status" [ "$status" -eq 2 ]
+    says err 'standard output: cannot be written: No space left on device'
+    status=0
+    "$PROGRAM" $words >&- 2> err || status=$?
+    verdict "hsc $words >&-: exit status $status" [ "$status" -eq 2 ]
+    says err 'standard output: cannot be written: Bad file descriptor'
+done
+
+# More than one buffer of output: 2048 gaps.
+{ event 5 0 1; event 0 0 0; } > many
+for i in 1 2 3 4 5 6 7 8 9 10 11; do
+    cat many many > more && mv more many
+done
+{ header 4096 4096; cat many; zeros $((2 * 68)); } > many.trace
+try 0 info many.trace
+verdict 'every gap is printed' [ "$(grep -c gap out)" -eq 2048 ]
+status=0
+"$PROGRAM" info many.trace > /dev/full 2> err || status=$?
+verdict "a long output to a full disk: exit status $status" [ "$status" -eq 2 ]
+says err 'standard output'
+
+# No stream at all: the image is replaced, or left, but never written into.
+{ head -c 48 two-events.trace; zeros $((3 * 68)); } > zero.trace
+status=0
+"$PROGRAM" replay zero.trace <&- >&- 2>&- || status=$?
+verdict "hsc replay with no streams: exit status $status" [ "$status" -eq 2 ]
+same zero.trace two-events.trace
+status=0
+"$PROGRAM" mend zero.trace 9 one-event.patch <&- >&- 2>&- || status=$?
+verdict "hsc mend with no streams, refused: exit status $status" [ "$status" -eq 1 ]
+same zero.trace two-events.trace
+
+# The limit on the size of files stands for a full disk: the messages go through a pipe.
+{ head -c 48 two-events.trace; zeros $((3 * 68)); } > zero.trace
+cp zero.trace kept.trace
+for words in 'replay zero.trace' 'mend zero.trace 0 one-event.patch'; do
+    message=$( (ulimit -f 0 && exec "$PROGRAM" $words) 2>&1 > /dev/null)
+    verdict "hsc $words over the limit: exit status" [ $? -eq 2 ]
+    verdict "hsc $words over the limit is told: $message" [ "$message" != "${message#*File too large}" ]
+    same zero.trace kept.trace
+    verdict "hsc $words over the limit: no temporary file" no_temporary
+done
+
+# A disk of two pages, one of them the image's, in a mount of its own.
+mkdir disk
+if [ "$(id -u)" -eq 0 ] && unshare -m mount -t tmpfs -o size=8k none disk 2> /dev/null; then
+    unshare -m sh -c '
+        mount -t tmpfs -o size=8k none disk && cd disk || exit 97
+        cp ../kept.trace disk.trace && head -c 4096 /dev/zero > filler || exit 96
+        "$1" replay disk.trace 2> ../err
+        [ $? -eq 2 ] || exit 95
+        cmp -s disk.trace ../kept.trace || exit 94
+        [ "$(ls -A)" = "$(printf "disk.trace\nfiller")" ] || exit 93
+        rm filler && "$1" replay disk.trace > /dev/null || exit 92
+        cmp -s disk.trace ../two-events.trace || exit 91
+    ' sh "$PROGRAM"
+    status=$?
+    verdict "a full disk: $status" [ "$status" -eq 0 ]
+    says err 'No space left on device'
+else
+    skip 'a full disk needs root and a mount'
+fi

@@ -1,0 +1,45 @@
+# The largest legal image, and files beyond any.
+
+largest=$((24 + 12 * 1048576 + 68 * 1048577))
+
+header 1048576 1 > largest.trace
+truncate -s "$largest" largest.trace
+try 1 check largest.trace
+says out 'not true: snapshot 0 differs first, 1048577 of 1048577 differ'
+try 0 replay largest.trace
+says out 'events 1048576 snapshots 1048577 acc 0'
+try 0 check largest.trace
+try 0 info largest.trace
+says out 'gap: events 0 to 1048575, 1048576 blank'
+try 0 show largest.trace 1048576
+truncate -s $((12 * 1048576)) all.patch
+try 0 mend largest.trace 0 all.patch
+prints << END
+events 1048576 from 0 snapshots 1048575 from 1 stop 1048576
+END
+try 0 mend largest.trace 1048575 one-event.patch
+says out 'snapshots 1 from 1048576 stop 1048577'
+try 0 show largest.trace 1048576
+says out 'ACC      9'
+truncate -s $((12 * 1048576 + 12)) over.patch
+keep largest.trace refuse 7 0 mend largest.trace 0 over.patch
+rm largest.trace
+
+# Not read: the header decides.
+header 1048576 1 > over.trace
+truncate -s $((largest + 1)) over.trace
+truncate -s 1T huge.trace
+header 2 1 > tail.trace
+truncate -s 1T tail.trace
+for words in info replay check; do
+    refuse 4 0 "$words" over.trace
+    refuse 2 0 "$words" huge.trace
+    refuse 4 0 "$words" tail.trace
+done
+refuse 4 0 show tail.trace 0
+refuse 4 0 mend tail.trace 0 one-event.patch
+verdict 'a huge image keeps its size' [ "$(stat -c %s tail.trace)" -eq 1099511627776 ]
+
+truncate -s 1T huge.patch
+keep two-events.trace refuse 7 0 mend two-events.trace 0 huge.patch
+keep two-events.trace refuse 7 0 mend two-events.trace 0 over.patch
