@@ -1,0 +1,4 @@
+// The office program on no input.
+fn main() {
+    report::office::run();
+}
