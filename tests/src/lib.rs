@@ -1,8 +1,10 @@
-//! A model of document 01 written from the document alone, and the
-//! declarations of the archive.
+//! A model of document 01 written from the document alone, the harness that runs the same
+//! cases on the model and on a subject, and the declarations of the archive.
 
 #[cfg(feature = "archive")]
 pub mod ffi;
+pub mod generate;
+pub mod harness;
 pub mod model;
 pub mod subject;
 
