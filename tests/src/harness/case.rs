@@ -88,6 +88,22 @@ impl Answer {
         &self.buffer[GUARD..self.buffer.len() - GUARD]
     }
 
+    /// Whether the guards and the read-only input are as they were.
+    pub fn stays_within(&self, case: &Case) -> bool {
+        let mut want = Answer::unchanged(case, self.status);
+        inside(&mut want.buffer).copy_from_slice(self.buffer());
+        let Results {
+            fields, last, span, ..
+        } = self.results;
+        want.results = Results {
+            fields,
+            last,
+            span,
+            ..Results::PAINTED
+        };
+        *self == want
+    }
+
     /// The refusal's number, 0 if there was none; for the event check its answer.
     pub fn number(&self) -> u32 {
         self.status as u32
