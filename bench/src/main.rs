@@ -32,16 +32,9 @@ fn compare<R: PartialEq>(name: &str, mut work: impl FnMut(&dyn Subject) -> R) {
             times[side].push(begun.elapsed().as_secs_f64());
         }
     }
-    let ratios = times[0]
-        .iter()
-        .zip(&times[1])
-        .map(|(library, model)| library / model)
-        .collect();
+    let ratios = times[0].iter().zip(&times[1]).map(|(library, model)| library / model).collect();
     let [library, model] = times.map(|side| 1e3 * median(side));
-    println!(
-        "  {name:<30} {library:9.3} ms {model:9.3} ms {:7.2}",
-        median(ratios)
-    );
+    println!("  {name:<30} {library:9.3} ms {model:9.3} ms {:7.2}", median(ratios));
 }
 
 fn images(spacing: usize) {
@@ -65,12 +58,7 @@ fn images(spacing: usize) {
     };
 
     // No event is run and nothing is written: the check of header and events is all there is.
-    mend(
-        "image check (empty mend at E)",
-        parts.events,
-        &Vec::new,
-        parts.snapshots,
-    );
+    mend("image check (empty mend at E)", parts.events, &Vec::new, parts.snapshots);
 
     let middle = parts.events / 2;
     let same = night::events()[middle..middle + 64].as_flattened().to_vec();
@@ -94,9 +82,7 @@ fn steps() {
         }
         snapshot
     });
-    compare("event check", |subject| {
-        events.iter().map(|event| subject.event_check(event)).sum::<u32>()
-    });
+    compare("event check", |subject| events.iter().map(|event| subject.event_check(event)).sum::<u32>());
 }
 
 fn main() {

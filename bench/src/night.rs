@@ -29,7 +29,7 @@ pub fn events() -> Vec<Bytes> {
     events.resize_with(MAX_EVENTS as usize, || {
         let mut bytes = match rng.below(4 * OTHER) {
             0 => event(5, 0, rng.below(1000) as i32 - 500),
-            1 => event(9, 0, rng.next() as u16 as i32),
+            1 => event(9, 0, rng.bits() as u16 as i32),
             2 => event(6, 0, 0),
             3 => event(7, 0, 0),
             _ => {

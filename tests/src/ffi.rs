@@ -40,14 +40,7 @@ impl Subject for Archive {
 
     fn mend(&self, image: &mut [u8], first: u64, patch: &[u8], span: &mut [u32; 2]) -> u64 {
         unsafe {
-            hsc_mend(
-                image.as_mut_ptr(),
-                image.len(),
-                first,
-                patch.as_ptr(),
-                patch.len(),
-                span.as_mut_ptr(),
-            )
+            hsc_mend(image.as_mut_ptr(), image.len(), first, patch.as_ptr(), patch.len(), span.as_mut_ptr())
         }
     }
 }

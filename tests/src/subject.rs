@@ -42,11 +42,8 @@ pub const UNDER_TEST: crate::ffi::Archive = crate::ffi::Archive;
 pub const UNDER_TEST: Model = Model;
 
 /// What `UNDER_TEST` is.
-pub const UNDER_TEST_NAME: &str = if cfg!(feature = "archive") {
-    "the archive"
-} else {
-    "the model (feature archive is off)"
-};
+pub const UNDER_TEST_NAME: &str =
+    if cfg!(feature = "archive") { "the archive" } else { "the model (feature archive is off)" };
 
 /// Runs a test on the model and on what is under test.
 pub fn on_each(test: impl Fn(&dyn Subject)) {

@@ -20,15 +20,7 @@ const DOWN: (u8, u8, i32) = (1, 0, 3);
 
 /// The settings P of the bench table.
 fn p() -> Settings {
-    Settings {
-        pfn: 3,
-        mode: 2,
-        unf: -3,
-        lop: -2,
-        hip: 4,
-        ovf: 5,
-        ..Settings::default()
-    }
+    Settings { pfn: 3, mode: 2, unf: -3, lop: -2, hip: 4, ovf: 5, ..Settings::default() }
 }
 
 /// A counter with these settings loaded that counts and interrupts.
@@ -46,23 +38,14 @@ fn after(subject: &dyn Subject, counter: Counter, events: &[(u8, u8, i32)]) -> C
     let mut snapshot = encode(&counter);
     for &(kind, sub, value) in events {
         let event: Bytes = event(kind, sub, value);
-        assert_eq!(
-            subject.step(&mut snapshot, &event),
-            0,
-            "event {kind} {sub} {value}"
-        );
+        assert_eq!(subject.step(&mut snapshot, &event), 0, "event {kind} {sub} {value}");
     }
     decode(&snapshot)
 }
 
 #[test]
 fn bench_rows_a_to_j() {
-    let mode_0 = Settings {
-        pfn: 3,
-        hip: 3,
-        ovf: 10,
-        ..Settings::default()
-    };
+    let mode_0 = Settings { pfn: 3, hip: 3, ovf: 10, ..Settings::default() };
     let rows = [
         ('a', p(), 3, UP, 4, 2, 0),
         ('b', p(), 5, UP, -3, 4, OF),
@@ -78,11 +61,7 @@ fn bench_rows_a_to_j() {
     on_each(|subject| {
         for (row, settings, from, count, acc, cause, sticky) in rows {
             let counter = after(subject, loaded(settings, from), &[count]);
-            assert_eq!(
-                (counter.acc, counter.running, counter.waiting),
-                (acc, cause, [0, 0]),
-                "row {row}"
-            );
+            assert_eq!((counter.acc, counter.running, counter.waiting), (acc, cause, [0, 0]), "row {row}");
             assert_eq!(counter.flags & (UF | OF | MD), sticky, "row {row}");
             assert_eq!(counter.has(DIR), count == UP, "row {row}");
         }
@@ -91,17 +70,10 @@ fn bench_rows_a_to_j() {
 
 #[test]
 fn bench_row_k() {
-    let settings = Settings {
-        hpo: 15,
-        omb: 13,
-        ..p()
-    };
+    let settings = Settings { hpo: 15, omb: 13, ..p() };
     on_each(|subject| {
         for (outputs, want) in [(2, 15), (0, 13)] {
-            let counter = Counter {
-                outputs,
-                ..loaded(settings, 3)
-            };
+            let counter = Counter { outputs, ..loaded(settings, 3) };
             assert_eq!(after(subject, counter, &[UP]).outputs, want);
         }
         // The staged mask has no say, and a dropped cause puts its outputs all the same.
@@ -115,11 +87,7 @@ fn bench_row_k() {
 
 #[test]
 fn bench_row_l() {
-    let mut counter = Counter {
-        running: 2,
-        waiting: [1, 4],
-        ..loaded(p(), -3)
-    };
+    let mut counter = Counter { running: 2, waiting: [1, 4], ..loaded(p(), -3) };
     counter.flags |= HPI;
     on_each(|subject| {
         let lost = after(subject, counter, &[DOWN]);
@@ -142,43 +110,19 @@ fn load_rows() {
         (Settings { pfn: 256, ..p() }, 1),
         (Settings { pfn: 3, ..p() }, 0),
         (Settings { pfn: 255, ..p() }, 0),
-        (
-            Settings {
-                pfn: 2,
-                mode: 8,
-                ..p()
-            },
-            1,
-        ),
+        (Settings { pfn: 2, mode: 8, ..p() }, 1),
         (Settings { mode: 8, ..p() }, 2),
         (Settings { mode: -1, ..p() }, 2),
         (Settings { hip: -2, ..p() }, 3),
-        (
-            Settings {
-                mode: 1,
-                hip: 0,
-                ..p()
-            },
-            3,
-        ),
+        (Settings { mode: 1, hip: 0, ..p() }, 3),
         (Settings { hip: 5, ..p() }, 0),
         (Settings { hip: 6, ..p() }, 4),
         (Settings { lop: -4, ..p() }, 5),
-        (
-            Settings {
-                mode: 1,
-                lop: -4,
-                ..p()
-            },
-            0,
-        ),
+        (Settings { mode: 1, lop: -4, ..p() }, 0),
     ];
     on_each(|subject| {
         for (staged, er) in rows {
-            let before = Counter {
-                staged,
-                ..Counter::fresh()
-            };
+            let before = Counter { staged, ..Counter::fresh() };
             let counter = after(subject, before, &[SP_ON]);
             let active = if er == 0 { staged } else { Settings::default() };
             assert_eq!((counter.er, counter.active), (er, active), "{staged:?}");
@@ -204,56 +148,23 @@ fn sp_loads_only_when_it_rises() {
 
 #[test]
 fn preset_load_takes_all_four_or_none() {
-    let staged = Settings {
-        pfn: 9,
-        mode: 9,
-        hip: 1,
-        lop: 0,
-        ovf: -9,
-        unf: 9,
-        omb: 1,
-        hpo: 2,
-        lpo: 3,
-    };
+    let staged = Settings { pfn: 9, mode: 9, hip: 1, lop: 0, ovf: -9, unf: 9, omb: 1, hpo: 2, lpo: 3 };
     on_each(|subject| {
-        let counter = after(
-            subject,
-            Counter {
-                staged,
-                ..loaded(p(), 0)
-            },
-            &[PRESET_LOAD],
-        );
-        assert_eq!(
-            counter.active,
-            Settings {
-                hip: 1,
-                lop: 0,
-                hpo: 2,
-                lpo: 3,
-                ..p()
-            }
-        );
+        let counter = after(subject, Counter { staged, ..loaded(p(), 0) }, &[PRESET_LOAD]);
+        assert_eq!(counter.active, Settings { hip: 1, lop: 0, hpo: 2, lpo: 3, ..p() });
         for (changed, er) in [((2, 1, 0), 3), ((2, 1, 6), 4), ((2, 2, -4), 5)] {
             let rejected = after(subject, counter, &[changed, PRESET_LOAD]);
             assert_eq!((rejected.er, rejected.active), (er, counter.active));
             assert!(rejected.has(ED));
         }
-        let unloaded = Counter {
-            staged,
-            ..Counter::fresh()
-        };
+        let unloaded = Counter { staged, ..Counter::fresh() };
         assert_eq!(after(subject, unloaded, &[PRESET_LOAD]), unloaded);
     });
 }
 
 #[test]
 fn enter_run_empties_the_queue_and_loads_by_as() {
-    let mut counter = Counter {
-        running: 2,
-        waiting: [1, 4],
-        ..loaded(p(), 3)
-    };
+    let mut counter = Counter { running: 2, waiting: [1, 4], ..loaded(p(), 3) };
     counter.flags = counter.flags & !FE | HPI | UIL | UF;
     on_each(|subject| {
         let without = after(subject, counter, &[ENTER_RUN]);
@@ -288,25 +199,12 @@ fn counts_by_mode() {
     on_each(|subject| {
         for (old, new, counts) in rows {
             for (mode, count) in (0..).zip(counts) {
-                let settings = Settings {
-                    mode,
-                    hip: 90,
-                    ovf: 99,
-                    lop: -90,
-                    unf: -99,
-                    ..p()
-                };
-                let before = Counter {
-                    levels: old,
-                    ..loaded(settings, 10)
-                };
+                let settings = Settings { mode, hip: 90, ovf: 99, lop: -90, unf: -99, ..p() };
+                let before = Counter { levels: old, ..loaded(settings, 10) };
                 let counter = after(subject, before, &[(1, 0, new.into())]);
                 assert_eq!(counter.acc, 10 + count, "mode {mode}, levels {old} to {new}");
                 assert_eq!((counter.levels, counter.running), (new, 0));
-                let off = Counter {
-                    flags: before.flags & !CE,
-                    ..before
-                };
+                let off = Counter { flags: before.flags & !CE, ..before };
                 let counter = after(subject, off, &[(1, 0, new.into())]);
                 assert_eq!(counter.acc, if count == -10 { 0 } else { 10 });
             }
@@ -316,13 +214,7 @@ fn counts_by_mode() {
 
 #[test]
 fn counts_at_the_ends_of_32_bits() {
-    let widest = Settings {
-        hip: i32::MAX,
-        ovf: i32::MAX,
-        lop: i32::MIN,
-        unf: i32::MIN,
-        ..p()
-    };
+    let widest = Settings { hip: i32::MAX, ovf: i32::MAX, lop: i32::MIN, unf: i32::MIN, ..p() };
     on_each(|subject| {
         for (from, count, acc, cause) in [
             (i32::MAX, UP, i32::MIN, 4),
@@ -342,14 +234,7 @@ fn program_word_keeps_outputs_of_the_mask() {
         let fresh = after(subject, Counter::fresh(), &[(3, 3, 0x00ff), (9, 0, 0xffff)]);
         assert_eq!(fresh.outputs, 0x0fff);
         let masked = loaded(Settings { omb: 0xf0f0, ..p() }, 0);
-        let counter = after(
-            subject,
-            Counter {
-                outputs: 0x0011,
-                ..masked
-            },
-            &[(9, 0, 0xabcd)],
-        );
+        let counter = after(subject, Counter { outputs: 0x0011, ..masked }, &[(9, 0, 0xabcd)]);
         assert_eq!(counter.outputs, 0x0b1d);
     });
 }
@@ -432,10 +317,7 @@ fn snapshot_layout() {
 #[test]
 fn shown_bits() {
     let mode_1 = Settings { mode: 1, ..p() };
-    let fresh = Counter {
-        flags: CE | MASKS,
-        ..Counter::fresh()
-    };
+    let fresh = Counter { flags: CE | MASKS, ..Counter::fresh() };
     let rows = [
         (Counter::fresh(), [0, 0, 0, 0, 0, 0]),
         (fresh, [0, 0, 1, 0, 0, 0]),
@@ -443,21 +325,8 @@ fn shown_bits() {
         (loaded(p(), 3), [0, 0, 1, 1, 0, 0]),
         (loaded(p(), -2), [0, 0, 1, 1, 0, 1]),
         (loaded(mode_1, -2), [0, 0, 1, 0, 0, 0]),
-        (
-            Counter {
-                running: 1,
-                ..loaded(mode_1, 9)
-            },
-            [1, 0, 1, 0, 1, 0],
-        ),
-        (
-            Counter {
-                running: 1,
-                waiting: [1, 0],
-                ..loaded(p(), 0)
-            },
-            [1, 1, 1, 1, 0, 0],
-        ),
+        (Counter { running: 1, ..loaded(mode_1, 9) }, [1, 0, 1, 0, 1, 0]),
+        (Counter { running: 1, waiting: [1, 0], ..loaded(p(), 0) }, [1, 1, 1, 1, 0, 0]),
     ];
     on_each(|subject| {
         for (counter, shown) in rows {

@@ -34,11 +34,7 @@ fn office_example() {
     let mut want = bytes.clone();
     let mut state = Counter::fresh();
     for (j, (acc, outputs)) in [(0, 0), (7, 0), (7, 3)].into_iter().enumerate() {
-        state = Counter {
-            acc,
-            outputs,
-            ..state
-        };
+        state = Counter { acc, outputs, ..state };
         want[48 + 68 * j..][..68].copy_from_slice(&encode(&state));
     }
     on_each(|subject| {
@@ -148,13 +144,7 @@ fn snapshot_and_event_refusals() {
             let case = Case::read(snapshot);
             case.expect(subject, &case.refused(number, 0)).unwrap();
         }
-        for (event, answer) in [
-            (&legal[..], 1),
-            (&ILLEGAL, 0),
-            (&legal[..11], 9),
-            (&[0; 13], 9),
-            (&[], 9),
-        ] {
+        for (event, answer) in [(&legal[..], 1), (&ILLEGAL, 0), (&legal[..11], 9), (&[0; 13], 9), (&[], 9)] {
             assert_eq!(subject.event_check(event), answer);
         }
     });
@@ -198,7 +188,7 @@ fn mends_by_hand() {
     let mut other_stamp = acc(2);
     other_stamp[8..].fill(0xff);
     // Events, spacing, first, patch, then the span.
-    let rows: [(i32, usize, usize, Vec<Bytes>, [u32; 2]); 10] = [
+    let rows = [
         (4, 1, 1, vec![acc(9)], [2, 3]),
         (4, 1, 1, vec![acc(2)], [2, 2]),
         (4, 1, 1, vec![other_stamp], [2, 2]),
@@ -234,19 +224,12 @@ fn mend_of_an_untrue_table_goes_by_its_bytes() {
         assert!(answer.buffer() == good);
         // A start that is not fresh is taken as it stands and stays.
         let mut bytes = good.clone();
-        let start = encode(&Counter {
-            levels: 5,
-            ..Counter::fresh()
-        });
+        let start = encode(&Counter { levels: 5, ..Counter::fresh() });
         bytes[parts.snapshot(0)..][..68].copy_from_slice(&start);
         let answer = Case::mend(&bytes, 0, &[]).answer(subject);
         assert_eq!((answer.status, answer.results.span), (0, [1, 5]));
         for j in 0..5 {
-            let want = Counter {
-                levels: 5,
-                acc: j as i32,
-                ..Counter::fresh()
-            };
+            let want = Counter { levels: 5, acc: j as i32, ..Counter::fresh() };
             assert!(answer.buffer()[parts.snapshot(j)..][..68] == encode(&want));
         }
     });

@@ -21,7 +21,7 @@ pub fn event(kind: u8, sub: u8, value: i32) -> Bytes {
 }
 
 pub fn stamp(rng: &mut Rng, bytes: &mut Bytes) {
-    bytes[8..].copy_from_slice(&(rng.next() as u32).to_le_bytes());
+    bytes[8..].copy_from_slice(&(rng.bits() as u32).to_le_bytes());
 }
 
 /// Levels with pulses on inputs 0 and 1, seldom a reset or a hold.
@@ -37,7 +37,7 @@ fn levels(rng: &mut Rng) -> i32 {
 }
 
 fn word(rng: &mut Rng) -> i32 {
-    rng.next() as u16 as i32
+    rng.bits() as u16 as i32
 }
 
 fn flag_write(rng: &mut Rng) -> Bytes {

@@ -3,7 +3,6 @@
 use super::{change_byte, change_length, event, state, Rng};
 use crate::model;
 use crate::model::event::Bytes;
-use crate::model::settings::Settings;
 use crate::model::snapshot;
 use crate::model::trace::{HEADER_SIZE, MAX_EVENTS, MAX_SPACING};
 
@@ -12,10 +11,11 @@ pub fn image(events: &[Bytes], spacing: usize) -> Vec<u8> {
     let snapshots = events.len() / spacing + 1;
     let snapshot_offset = HEADER_SIZE + 12 * events.len();
     let header = [events.len(), HEADER_SIZE, snapshots, snapshot_offset, spacing, 0];
-    let mut bytes = Vec::with_capacity(snapshot_offset + snapshot::SIZE * snapshots);
+    let size = snapshot_offset + snapshot::SIZE * snapshots;
+    let mut bytes = Vec::with_capacity(size);
     bytes.extend(header.iter().flat_map(|&number| (number as u32).to_le_bytes()));
     bytes.extend_from_slice(events.as_flattened());
-    bytes.resize(bytes.capacity(), 0);
+    bytes.resize(size, 0);
     bytes
 }
 
@@ -31,11 +31,7 @@ impl Parts {
     /// The parts of a valid image.
     pub fn of(image: &[u8]) -> Parts {
         let number = |i: usize| u32::from_le_bytes(image[4 * i..][..4].try_into().unwrap()) as usize;
-        Parts {
-            events: number(0),
-            spacing: number(4),
-            snapshots: number(2),
-        }
+        Parts { events: number(0), spacing: number(4), snapshots: number(2) }
     }
 
     /// The first byte of an event, or the one after the last event.
@@ -68,20 +64,10 @@ fn spacing(rng: &mut Rng, events: usize) -> usize {
 
 /// A row of legal events: mostly a load first, then samples with other events among them.
 pub fn events(rng: &mut Rng, count: usize) -> Vec<Bytes> {
-    let settings: Settings = state::settings(rng);
-    let mut events = if rng.once_in(4) {
-        Vec::new()
-    } else {
-        event::load(rng, &settings)
-    };
+    let settings = state::settings(rng);
+    let mut events = if rng.once_in(4) { Vec::new() } else { event::load(rng, &settings) };
     let other = rng.pick(&[1, 4, 16]);
-    events.resize_with(count, || {
-        if rng.once_in(other) {
-            event::legal(rng)
-        } else {
-            event::sample(rng)
-        }
-    });
+    events.resize_with(count, || if rng.once_in(other) { event::legal(rng) } else { event::sample(rng) });
     events
 }
 
@@ -166,23 +152,17 @@ pub fn damage(rng: &mut Rng, image: &mut Vec<u8>) {
     }
 }
 
+/// Header numbers at the limits and beyond them.
+const LIMITS: [u32; 9] =
+    [0, 1, 24, MAX_SPACING, MAX_SPACING + 1, MAX_EVENTS, MAX_EVENTS + 1, 1 << 31, u32::MAX];
+
 fn change_header(rng: &mut Rng, image: &mut [u8]) {
     let word = &mut image.as_chunks_mut().0[rng.below(6)];
     let old = u32::from_le_bytes(*word);
     let new = match rng.below(3) {
         0 => old.wrapping_add(1),
         1 => old.wrapping_sub(1),
-        _ => rng.pick(&[
-            0,
-            1,
-            24,
-            MAX_SPACING,
-            MAX_SPACING + 1,
-            MAX_EVENTS,
-            MAX_EVENTS + 1,
-            1 << 31,
-            u32::MAX,
-        ]),
+        _ => rng.pick(&LIMITS),
     };
     *word = new.to_le_bytes();
 }

@@ -9,38 +9,17 @@ pub mod state;
 pub use rng::Rng;
 
 /// Values at the limits that document 01 names, and beside them.
+#[rustfmt::skip]
 pub const EDGES: [i32; 24] = [
-    0,
-    1,
-    -1,
-    2,
-    3,
-    7,
-    8,
-    15,
-    16,
-    255,
-    256,
-    32766,
-    32767,
-    32768,
-    -32767,
-    -32768,
-    -32769,
-    65535,
-    65536,
-    i32::MAX,
-    i32::MAX - 1,
-    i32::MIN,
-    i32::MIN + 1,
-    -65536,
+    0, 1, -1, 2, 3, 7, 8, 15, 16, 255, 256, 32766, 32767, 32768, -32767, -32768, -32769,
+    65535, 65536, -65536, i32::MAX, i32::MAX - 1, i32::MIN, i32::MIN + 1,
 ];
 
 /// Mostly a small number, so that counts reach presets and limits often.
 pub fn value(rng: &mut Rng) -> i32 {
     match rng.below(16) {
         0 | 1 => rng.pick(&EDGES),
-        2 => rng.next() as i32,
+        2 => rng.bits() as i32,
         _ => rng.below(11) as i32 - 5,
     }
 }
@@ -59,6 +38,6 @@ pub fn change_length(rng: &mut Rng, bytes: &mut Vec<u8>) {
     if rng.once_in(2) {
         bytes.truncate(bytes.len().saturating_sub(by));
     } else {
-        bytes.extend((0..by).map(|_| rng.next() as u8));
+        bytes.extend((0..by).map(|_| rng.bits() as u8));
     }
 }

@@ -9,10 +9,10 @@ impl Rng {
 
     /// The generator of one case, so that a case can be run again alone.
     pub fn of_case(seed: u64, case: u64) -> Rng {
-        Rng(Rng(seed ^ case.wrapping_mul(0xd1342543de82ef95)).next())
+        Rng(Rng(seed ^ case.wrapping_mul(0xd1342543de82ef95)).bits())
     }
 
-    pub fn next(&mut self) -> u64 {
+    pub fn bits(&mut self) -> u64 {
         self.0 = self.0.wrapping_add(0x9e3779b97f4a7c15);
         let mut z = self.0;
         z = (z ^ z >> 30).wrapping_mul(0xbf58476d1ce4e5b9);
@@ -22,7 +22,7 @@ impl Rng {
 
     /// A number below `bound`, which is not 0.
     pub fn below(&mut self, bound: usize) -> usize {
-        ((self.next() >> 32) * bound as u64 >> 32) as usize
+        (((self.bits() >> 32) * bound as u64) >> 32) as usize
     }
 
     /// True once in `times`.

@@ -20,9 +20,9 @@ fn loose_settings(rng: &mut Rng) -> Settings {
         lop,
         ovf,
         unf,
-        omb: rng.next() as u16,
-        hpo: rng.next() as u16,
-        lpo: rng.next() as u16,
+        omb: rng.bits() as u16,
+        hpo: rng.bits() as u16,
+        lpo: rng.bits() as u16,
     }
 }
 
@@ -48,22 +48,14 @@ fn accumulator(rng: &mut Rng, active: &Settings) -> i32 {
 /// A well-formed state.
 pub fn state(rng: &mut Rng) -> Counter {
     let loaded = !rng.once_in(8);
-    let active = if loaded {
-        settings(rng)
-    } else {
-        Settings::default()
-    };
+    let active = if loaded { settings(rng) } else { Settings::default() };
     let staged = match rng.below(4) {
         0 => active,
         1 => settings(rng),
         _ => loose_settings(rng),
     };
-    let er = if rng.once_in(4) {
-        1 + rng.below(5) as u16
-    } else {
-        0
-    };
-    let mut bits = rng.next() as u32 & flags::NAMED & !flags::ED & !flags::LOADED;
+    let er = if rng.once_in(4) { 1 + rng.below(5) as u16 } else { 0 };
+    let mut bits = rng.bits() as u32 & flags::NAMED & !flags::ED & !flags::LOADED;
     if !rng.once_in(4) {
         bits |= flags::CE | flags::FE | flags::UIE | flags::MASKS;
     }
@@ -83,7 +75,7 @@ pub fn state(rng: &mut Rng) -> Counter {
         staged,
         active,
         acc: accumulator(rng, &active),
-        outputs: rng.next() as u16 & OUTPUTS,
+        outputs: rng.bits() as u16 & OUTPUTS,
         er,
         flags: bits,
         levels: rng.below(16) as u8,
@@ -111,5 +103,5 @@ pub fn snapshot(rng: &mut Rng) -> snapshot::Bytes {
 
 /// 68 random bytes.
 pub fn noise(rng: &mut Rng) -> snapshot::Bytes {
-    [(); snapshot::SIZE].map(|()| rng.next() as u8)
+    [(); snapshot::SIZE].map(|()| rng.bits() as u8)
 }

@@ -23,8 +23,8 @@ pub struct Case {
     pub input: Vec<u8>,
 }
 
-/// Bytes on each side of a lent buffer that no call may touch.
-const GUARD: usize = 16;
+/// Bytes on each side of a lent buffer that no call may touch: more than a snapshot.
+const GUARD: usize = 80;
 
 /// What a guard byte and a result hold before the call.
 const PAINT: u8 = 0xa5;
@@ -92,15 +92,8 @@ impl Answer {
     pub fn stays_within(&self, case: &Case) -> bool {
         let mut want = Answer::unchanged(case, self.status);
         inside(&mut want.buffer).copy_from_slice(self.buffer());
-        let Results {
-            fields, last, span, ..
-        } = self.results;
-        want.results = Results {
-            fields,
-            last,
-            span,
-            ..Results::PAINTED
-        };
+        let Results { fields, last, span, .. } = self.results;
+        want.results = Results { fields, last, span, ..Results::PAINTED };
         *self == want
     }
 
@@ -160,12 +153,7 @@ impl Case {
     }
 
     fn lend(call: Call, buffer: &[u8], first: u64, input: &[u8]) -> Case {
-        Case {
-            call,
-            buffer: buffer.to_vec(),
-            first,
-            input: input.to_vec(),
-        }
+        Case { call, buffer: buffer.to_vec(), first, input: input.to_vec() }
     }
 
     /// Makes the call on guarded copies of the inputs.
@@ -196,12 +184,7 @@ impl Case {
         if answer == *want {
             return Ok(());
         }
-        let Case {
-            call,
-            buffer,
-            first,
-            input,
-        } = self;
+        let Case { call, buffer, first, input } = self;
         Err(format!(
             "{call:?} of {} bytes, first {first}, {} bytes of input: {}\nbuffer {}\ninput {}",
             buffer.len(),
@@ -215,11 +198,7 @@ impl Case {
 
 /// Up to 4096 bytes in hex; a longer case is run again from its seed.
 fn hex(bytes: &[u8]) -> String {
-    bytes
-        .iter()
-        .take(4096)
-        .map(|byte| format!("{byte:02x}"))
-        .collect()
+    bytes.iter().take(4096).map(|byte| format!("{byte:02x}")).collect()
 }
 
 #[cfg(test)]
@@ -232,10 +211,7 @@ mod tests {
         let mut touched = case.refused(6, 0);
         *touched.buffer.last_mut().unwrap() ^= 1;
         assert!(touched != case.refused(6, 0));
-        assert_eq!(
-            touched.difference(&case.refused(6, 0)),
-            "buffer at 83 is 164, not 165"
-        );
+        assert_eq!(touched.difference(&case.refused(6, 0)), "buffer at 147 is 164, not 165");
         let mut touched = case.refused(6, 0);
         touched.results.guard_1[0] = 0;
         assert!(touched != case.refused(6, 0));

@@ -12,10 +12,7 @@ fn check(holds: bool, claim: &str) -> Result<(), String> {
 fn answer(subject: &dyn Subject, case: Case) -> Result<Answer, String> {
     let answer = case.answer(subject);
     check(answer.status == 0, &format!("{:?} is refused", case.call))?;
-    check(
-        answer.stays_within(&case),
-        &format!("{:?} touches a guard or the patch", case.call),
-    )?;
+    check(answer.stays_within(&case), &format!("{:?} touches a guard or the patch", case.call))?;
     Ok(answer)
 }
 
@@ -33,10 +30,7 @@ pub fn holds(subject: &dyn Subject, image: &[u8], first: usize, patch: &[u8]) ->
     let replayed = answer(subject, Case::replay(&changed))?;
     let want = replayed.buffer();
     let events_end = parts.snapshot(0);
-    check(
-        want[..events_end] == changed[..events_end],
-        "replay changes header or events",
-    )?;
+    check(want[..events_end] == changed[..events_end], "replay changes header or events")?;
 
     let answer = answer(subject, Case::mend(old, first as u64, patch))?;
     let (mended, span) = (answer.buffer(), answer.results.span);
@@ -46,10 +40,7 @@ pub fn holds(subject: &dyn Subject, image: &[u8], first: usize, patch: &[u8]) ->
         (parts.event(end), events_end, "events after the run"),
         (events_end, parts.snapshot(start + 1), "snapshots 0 to s"),
     ] {
-        check(
-            mended[from..to] == old[from..to],
-            &format!("mending changes {part}"),
-        )?;
+        check(mended[from..to] == old[from..to], &format!("mending changes {part}"))?;
     }
 
     let snapshot = |j| parts.snapshot(j)..parts.snapshot(j + 1);

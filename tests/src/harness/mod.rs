@@ -65,11 +65,8 @@ fn compare(subject: &dyn Subject, case: &Case, tally: &mut Tally) -> Result<case
 
 /// An event for a call that takes one: mostly legal, at times damaged or of another length.
 fn event_input(rng: &mut Rng, damaged: usize) -> Vec<u8> {
-    let mut bytes = if rng.once_in(damaged) {
-        event::damaged(rng).to_vec()
-    } else {
-        event::legal(rng).to_vec()
-    };
+    let mut bytes =
+        if rng.once_in(damaged) { event::damaged(rng).to_vec() } else { event::legal(rng).to_vec() };
     if rng.once_in(32) {
         change_length(rng, &mut bytes);
     }
@@ -99,10 +96,7 @@ fn step(subject: &dyn Subject, rng: &mut Rng, tally: &mut Tally) -> Result<(), S
     let answer = compare(subject, &case, tally)?;
     if answer.status == 0 {
         let mut counter = snapshot::decode(case.buffer[..].try_into().unwrap());
-        tally.event(
-            &mut counter,
-            Event::from_bytes(case.input[..].try_into().unwrap()),
-        );
+        tally.event(&mut counter, Event::from_bytes(case.input[..].try_into().unwrap()));
     }
     Ok(())
 }

@@ -4,6 +4,7 @@
 use std::cell::Cell;
 
 use crate::generate::image::Parts;
+use crate::model::counter::{Counter, OUTPUTS};
 use crate::model::{flags, snapshot};
 use crate::subject::{Model, Subject};
 
@@ -53,26 +54,22 @@ impl Subject for Slip {
     }
 
     fn step(&self, snapshot: &mut [u8], event: &[u8]) -> u64 {
-        let before = snapshot.to_vec();
+        if matches!(self, Slip::StepRefusesAll) {
+            return 9;
+        }
         let status = Model.step(snapshot, event);
         if status != 0 {
             return status;
         }
         let mut counter = snapshot::decode((&*snapshot).try_into().unwrap());
-        let staged = snapshot::decode(before[..].try_into().unwrap()).staged;
         match self {
-            Slip::StepRefusesAll => {
-                snapshot.copy_from_slice(&before);
-                return 9;
-            }
-            Slip::StepIsFixed => counter = crate::model::counter::Counter::fresh(),
-            Slip::OverflowAtLimit if event[0] == 1 && counter.has(flags::DIR) => {
-                if counter.has(flags::LOADED) && counter.acc == counter.active.ovf {
-                    counter.flags |= flags::OF;
-                }
+            Slip::StepIsFixed => counter = Counter::fresh(),
+            Slip::OverflowAtLimit if event[0] == 1 && counter.has(flags::DIR | flags::LOADED) => {
+                let limit = counter.acc == counter.active.ovf;
+                counter.flags |= if limit { flags::OF } else { 0 };
             }
             Slip::StagedMask if event[0] == 9 => {
-                let outside = !staged.omb & 0x0fff;
+                let outside = !counter.staged.omb & OUTPUTS;
                 let word = u16::from_le_bytes([event[4], event[5]]);
                 counter.outputs = counter.outputs & !outside | word & outside;
             }

@@ -6,13 +6,13 @@ pub mod counter;
 pub mod event;
 pub mod flags;
 mod interrupt;
+mod sample;
 pub mod settings;
 pub mod snapshot;
 pub mod trace;
 
 pub use interrupt::Fate;
 
-use counter::Counter;
 use event::Event;
 
 /// Why a call was refused: a number of the refusal table and its place.
@@ -76,7 +76,7 @@ fn try_read(snapshot: &[u8], fields: &mut [i32; 32]) -> Result<(), Refusal> {
 
 /// Writes every snapshot of the image, and the final state over `last`. Refusals 1 to 5.
 pub fn replay(image: &mut [u8], last: &mut snapshot::Bytes) -> u64 {
-    status(trace::replay(image).map(|state: Counter| *last = snapshot::encode(&state)))
+    status(trace::replay(image).map(|state| *last = snapshot::encode(&state)))
 }
 
 /// Copies the patch over the events from `first` and mends the table after them; `span`

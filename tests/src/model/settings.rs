@@ -16,13 +16,7 @@ pub struct Settings {
 impl Settings {
     /// The staged settings of a fresh counter.
     pub fn fresh() -> Settings {
-        Settings {
-            hip: i32::MAX,
-            lop: i32::MIN,
-            ovf: i32::MAX,
-            unf: i32::MIN,
-            ..Settings::default()
-        }
+        Settings { hip: i32::MAX, lop: i32::MIN, ovf: i32::MAX, unf: i32::MIN, ..Settings::default() }
     }
 
     /// Modes 2 to 7 count both ways; modes 0 and 1 only up.
