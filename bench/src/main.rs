@@ -66,7 +66,7 @@ fn images(spacing: usize) {
         });
     };
 
-    // No event is run and nothing is written: the check of header and events is all there is.
+    // No event is run and nothing is written: header, events and one snapshot are checked.
     mend("image check (empty mend at E)", parts.events, &Vec::new, parts.snapshots);
 
     let middle = parts.events / 2;
