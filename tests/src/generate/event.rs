@@ -85,7 +85,7 @@ pub fn legal(rng: &mut Rng) -> Bytes {
     bytes
 }
 
-/// A legal event with one byte before the stamp changed: mostly illegal.
+/// A legal event with its kind, sub, zeros or value changed: mostly illegal.
 pub fn damaged(rng: &mut Rng) -> Bytes {
     let mut bytes = legal(rng);
     damage(rng, &mut bytes);
@@ -93,10 +93,11 @@ pub fn damaged(rng: &mut Rng) -> Bytes {
 }
 
 pub fn damage(rng: &mut Rng, event: &mut [u8]) {
-    if rng.once_in(4) {
-        event[4..8].copy_from_slice(&rng.pick(&EDGES).to_le_bytes());
-    } else {
-        change_byte(rng, &mut event[..8]);
+    match rng.below(8) {
+        0 => event[0] = rng.below(11) as u8,
+        1 | 2 => event[1] = rng.below(21) as u8,
+        3 | 4 => event[4..8].copy_from_slice(&rng.pick(&EDGES).to_le_bytes()),
+        _ => change_byte(rng, &mut event[..8]),
     }
 }
 
