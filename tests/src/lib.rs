@@ -1,4 +1,4 @@
-//! A model of document 01 written from the document alone, the harness that runs the same
+//! An independent model of document 01, the harness that runs the same
 //! cases on the model and on a subject, and the declarations of the archive.
 
 #[cfg(feature = "archive")]
