@@ -1,0 +1,107 @@
+//! The library and the model side by side on the same inputs, in one run: replay, mending,
+//! the image's check and single steps over a full night. It asserts results, never times.
+
+mod night;
+
+use std::cell::Cell;
+use std::time::Instant;
+
+use hsc_tests::generate::event::event;
+use hsc_tests::generate::image::Parts;
+use hsc_tests::model::counter::Counter;
+use hsc_tests::model::snapshot::encode;
+use hsc_tests::subject::{Model, Subject, UNDER_TEST, UNDER_TEST_NAME};
+
+const ROUNDS: usize = 15;
+
+fn median(mut numbers: Vec<f64>) -> f64 {
+    numbers.sort_by(f64::total_cmp);
+    numbers[numbers.len() / 2]
+}
+
+/// Times the work on both sides, taking turns at going first, after one run of each that is not
+/// timed. The work's results must be equal.
+fn compare<R: PartialEq>(name: &str, mut work: impl FnMut(&dyn Subject) -> R) {
+    let sides: [&dyn Subject; 2] = [&UNDER_TEST, &Model];
+    assert!(work(sides[0]) == work(sides[1]), "{name}: the results differ");
+    let mut times = [Vec::new(), Vec::new()];
+    for round in 0..ROUNDS {
+        for side in [round % 2, 1 - round % 2] {
+            let begun = Instant::now();
+            work(sides[side]);
+            times[side].push(begun.elapsed().as_secs_f64());
+        }
+    }
+    let ratios = times[0].iter().zip(&times[1]).map(|(library, model)| library / model).collect();
+    let [library, model] = times.map(|side| {
+        let least = side.iter().copied().fold(f64::INFINITY, f64::min);
+        (1e3 * median(side), least)
+    });
+    println!(
+        "  {name:<30} {:9.3} ms {:9.3} ms {:7.2} {:7.2}",
+        library.0,
+        model.0,
+        median(ratios),
+        library.1 / model.1
+    );
+}
+
+fn images(spacing: usize) {
+    let mut image = night::image(spacing);
+    let parts = Parts::of(&image);
+    println!("K {spacing}, image of {:.1} MB", image.len() as f64 / 1e6);
+
+    compare("replay", |subject| {
+        let mut last = [0; 68];
+        assert_eq!(subject.replay(&mut image, &mut last), 0);
+        last
+    });
+
+    let mut mend = |name, first: usize, patch: &dyn Fn() -> Vec<u8>, stop: usize| {
+        compare(name, |subject| {
+            let mut span = [0; 2];
+            assert_eq!(subject.mend(&mut image, first as u64, &patch(), &mut span), 0);
+            assert_eq!(span[1] as usize, stop, "{name}: the stop");
+            span
+        });
+    };
+
+    // No event is run and nothing is written: header, events and one snapshot are checked.
+    mend("image check (empty mend at E)", parts.events, &Vec::new, parts.snapshots);
+
+    let middle = parts.events / 2;
+    let same = night::events()[middle..middle + 64].as_flattened().to_vec();
+    let stop = (middle + 64).div_ceil(spacing);
+    mend("mend, stops at once", middle, &|| same.clone(), stop);
+
+    // The staged LPO is written once in the night, in the place of a pulse, and never the same
+    // value twice, so that no later snapshot agrees.
+    let word = Cell::new(0);
+    let other = || event(2, 6, word.replace((word.get() + 1) % 65536)).to_vec();
+    mend("mend, runs to the end", 20, &other, parts.snapshots);
+}
+
+fn steps() {
+    let events = night::events();
+    println!("single calls over the night's events");
+    compare("step", |subject| {
+        let mut snapshot = encode(&Counter::fresh());
+        for event in &events {
+            assert_eq!(subject.step(&mut snapshot, event), 0);
+        }
+        snapshot
+    });
+    compare("event check", |subject| events.iter().map(|event| subject.event_check(event)).sum::<u32>());
+}
+
+fn main() {
+    println!("library: {UNDER_TEST_NAME}; model: the model of document 01");
+    println!("columns: the library's and the model's median of {ROUNDS} rounds, then library/model twice:");
+    println!("the median of the rounds' ratios, and the ratio of the two least times");
+    println!("buffers are warm: both sides work on one image, and each ran once before the timing;");
+    println!("what the caches do not hold of it comes from memory on both sides");
+    for spacing in [1, 64, 4096] {
+        images(spacing);
+    }
+    steps();
+}

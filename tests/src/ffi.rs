@@ -1,0 +1,46 @@
+//! The archive's C functions, as `include/hsc.h` has them, behind safe calls on slices.
+
+use crate::subject::Subject;
+
+extern "C" {
+    fn hsc_event_check(event: *const u8, event_len: usize) -> u32;
+    fn hsc_step(snapshot: *mut u8, snapshot_len: usize, event: *const u8, event_len: usize) -> u64;
+    fn hsc_read(snapshot: *const u8, snapshot_len: usize, fields: *mut i32) -> u64;
+    fn hsc_replay(image: *mut u8, image_len: usize, last: *mut u8) -> u64;
+    fn hsc_mend(
+        image: *mut u8,
+        image_len: usize,
+        first: u64,
+        patch: *const u8,
+        patch_len: usize,
+        span: *mut u32,
+    ) -> u64;
+}
+
+pub struct Archive;
+
+// SAFETY of every call: each pointer comes from a slice or an array of the length passed or
+// fixed by the header, which lives through the call, and no two of them overlap.
+impl Subject for Archive {
+    fn event_check(&self, event: &[u8]) -> u32 {
+        unsafe { hsc_event_check(event.as_ptr(), event.len()) }
+    }
+
+    fn step(&self, snapshot: &mut [u8], event: &[u8]) -> u64 {
+        unsafe { hsc_step(snapshot.as_mut_ptr(), snapshot.len(), event.as_ptr(), event.len()) }
+    }
+
+    fn read(&self, snapshot: &[u8], fields: &mut [i32; 32]) -> u64 {
+        unsafe { hsc_read(snapshot.as_ptr(), snapshot.len(), fields.as_mut_ptr()) }
+    }
+
+    fn replay(&self, image: &mut [u8], last: &mut [u8; 68]) -> u64 {
+        unsafe { hsc_replay(image.as_mut_ptr(), image.len(), last.as_mut_ptr()) }
+    }
+
+    fn mend(&self, image: &mut [u8], first: u64, patch: &[u8], span: &mut [u32; 2]) -> u64 {
+        unsafe {
+            hsc_mend(image.as_mut_ptr(), image.len(), first, patch.as_ptr(), patch.len(), span.as_mut_ptr())
+        }
+    }
+}

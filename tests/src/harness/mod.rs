@@ -1,0 +1,143 @@
+//! Runs generated cases on a subject and on the model, and counts what they reach.
+
+pub mod case;
+pub mod demand3;
+pub mod slip;
+pub mod tally;
+
+use std::ops::Range;
+
+use case::Case;
+use tally::Tally;
+
+use crate::generate::{change_length, event, image, patch, state, Rng};
+use crate::model::event::{row, Event};
+use crate::model::{counter::Counter, snapshot};
+use crate::subject::{Model, Subject};
+
+/// Runs the cases numbered `cases` of a seed; the first that fails is named.
+pub fn run(subject: &dyn Subject, seed: u64, cases: Range<u64>) -> Result<Tally, String> {
+    run_each(subject, seed, cases, any_call)
+}
+
+/// The same with cases of demand 3 only.
+pub fn run_demand_3(subject: &dyn Subject, seed: u64, cases: Range<u64>) -> Result<Tally, String> {
+    run_each(subject, seed, cases, demand_3)
+}
+
+fn run_each(
+    subject: &dyn Subject,
+    seed: u64,
+    cases: Range<u64>,
+    one: fn(&dyn Subject, &mut Rng, &mut Tally) -> Result<(), String>,
+) -> Result<Tally, String> {
+    let mut tally = Tally::default();
+    for number in cases {
+        let mut rng = Rng::of_case(seed, number);
+        one(subject, &mut rng, &mut tally)
+            .map_err(|failure| format!("seed {seed:#x}, case {number}: {failure}"))?;
+    }
+    Ok(tally)
+}
+
+fn any_call(subject: &dyn Subject, rng: &mut Rng, tally: &mut Tally) -> Result<(), String> {
+    match rng.below(16) {
+        0 => check_event(subject, rng, tally),
+        1 => read(subject, rng, tally),
+        2..=6 => step(subject, rng, tally),
+        7..=9 => replay(subject, rng, tally),
+        10..=13 => mend(subject, rng, tally),
+        _ => demand_3(subject, rng, tally),
+    }
+}
+
+/// Compares the subject's answer with the model's, which must leave all as it was if it refuses.
+fn compare(subject: &dyn Subject, case: &Case, tally: &mut Tally) -> Result<case::Answer, String> {
+    let want = case.answer(&Model);
+    let refused = case.call != case::Call::EventCheck && want.status != 0;
+    if refused && want != case.refused(want.number(), (want.status >> 32) as usize) {
+        return Err(format!("the model refuses and writes: {case:?}"));
+    }
+    case.expect(subject, &want)?;
+    tally.answer(case, &want);
+    Ok(want)
+}
+
+/// An event for a call that takes one: mostly legal, at times damaged or of another length.
+fn event_input(rng: &mut Rng, damaged: usize) -> Vec<u8> {
+    let mut bytes =
+        if rng.once_in(damaged) { event::damaged(rng).to_vec() } else { event::legal(rng).to_vec() };
+    if rng.once_in(32) {
+        change_length(rng, &mut bytes);
+    }
+    bytes
+}
+
+fn snapshot_input(rng: &mut Rng) -> Vec<u8> {
+    let mut bytes = state::snapshot(rng).to_vec();
+    if rng.once_in(32) {
+        change_length(rng, &mut bytes);
+    }
+    bytes
+}
+
+fn check_event(subject: &dyn Subject, rng: &mut Rng, tally: &mut Tally) -> Result<(), String> {
+    let case = Case::event_check(&event_input(rng, 2));
+    compare(subject, &case, tally).map(drop)
+}
+
+fn read(subject: &dyn Subject, rng: &mut Rng, tally: &mut Tally) -> Result<(), String> {
+    let case = Case::read(&snapshot_input(rng));
+    compare(subject, &case, tally).map(drop)
+}
+
+fn step(subject: &dyn Subject, rng: &mut Rng, tally: &mut Tally) -> Result<(), String> {
+    let case = Case::step(&snapshot_input(rng), &event_input(rng, 8));
+    let answer = compare(subject, &case, tally)?;
+    if answer.status == 0 {
+        let mut counter = snapshot::decode(case.buffer[..].try_into().unwrap());
+        tally.event(&mut counter, Event::from_bytes(case.input[..].try_into().unwrap()));
+    }
+    Ok(())
+}
+
+fn replay(subject: &dyn Subject, rng: &mut Rng, tally: &mut Tally) -> Result<(), String> {
+    let (mut bytes, _) = image::valid(rng);
+    if rng.once_in(3) {
+        image::damage(rng, &mut bytes);
+    }
+    let case = Case::replay(&bytes);
+    let answer = compare(subject, &case, tally)?;
+    if answer.status == 0 {
+        let parts = image::Parts::of(&bytes);
+        let mut counter = Counter::fresh();
+        for event in row(&bytes[parts.event(0)..parts.snapshot(0)]) {
+            tally.event(&mut counter, Event::from_bytes(event));
+        }
+    }
+    Ok(())
+}
+
+fn mend(subject: &dyn Subject, rng: &mut Rng, tally: &mut Tally) -> Result<(), String> {
+    let (mut bytes, table) = image::valid(rng);
+    let parts = image::Parts::of(&bytes);
+    let (first, patch) = patch::any(rng, &bytes, parts);
+    if rng.once_in(8) {
+        image::damage(rng, &mut bytes);
+    }
+    let case = Case::mend(&bytes, first, &patch);
+    let answer = compare(subject, &case, tally)?;
+    if answer.status == 0 {
+        tally.mended(table, answer.results.span[1], parts.snapshots);
+    }
+    Ok(())
+}
+
+fn demand_3(subject: &dyn Subject, rng: &mut Rng, tally: &mut Tally) -> Result<(), String> {
+    let bytes = image::with_true_table(rng);
+    let run = patch::run(rng, image::Parts::of(&bytes));
+    let patch = patch::legal(rng, &bytes, run);
+    let inside = demand3::holds(subject, &bytes, run.0, patch.as_flattened())?;
+    tally.demand_3(inside);
+    Ok(())
+}

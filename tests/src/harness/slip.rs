@@ -1,0 +1,130 @@
+//! Subjects that are wrong on purpose, each by one slip over the model, to see that the
+//! harness catches it.
+
+use std::cell::Cell;
+
+use crate::generate::image::Parts;
+use crate::model::counter::{Counter, OUTPUTS};
+use crate::model::{flags, snapshot};
+use crate::subject::{Model, Subject};
+
+#[derive(Clone, Debug)]
+pub enum Slip {
+    StepRefusesAll,
+    StepIsFixed,
+    /// OF already when ACC stands on OVF, not past it.
+    OverflowAtLimit,
+    /// The program's output word goes by the staged mask.
+    StagedMask,
+    ReplayRefusesAll,
+    MendTouchesNothing,
+    /// Mends once, then says it did and touches nothing.
+    MendNods(Cell<bool>),
+    /// Compares from s + 1 on, also inside the run.
+    MendStopsInRun,
+    /// Names S as the stop whatever the bytes say.
+    MendNamesEnd,
+    /// Copies the patch without its stamps.
+    StampLeftOut,
+    /// Refuses rightly but writes its result.
+    RefusalWrites,
+}
+
+impl Slip {
+    pub fn all() -> [Slip; 11] {
+        [
+            Slip::StepRefusesAll,
+            Slip::StepIsFixed,
+            Slip::OverflowAtLimit,
+            Slip::StagedMask,
+            Slip::ReplayRefusesAll,
+            Slip::MendTouchesNothing,
+            Slip::MendNods(Cell::new(false)),
+            Slip::MendStopsInRun,
+            Slip::MendNamesEnd,
+            Slip::StampLeftOut,
+            Slip::RefusalWrites,
+        ]
+    }
+}
+
+impl Subject for Slip {
+    fn event_check(&self, event: &[u8]) -> u32 {
+        Model.event_check(event)
+    }
+
+    fn step(&self, snapshot: &mut [u8], event: &[u8]) -> u64 {
+        if matches!(self, Slip::StepRefusesAll) {
+            return 9;
+        }
+        let status = Model.step(snapshot, event);
+        if status != 0 {
+            return status;
+        }
+        let mut counter = snapshot::decode((&*snapshot).try_into().unwrap());
+        match self {
+            Slip::StepIsFixed => counter = Counter::fresh(),
+            Slip::OverflowAtLimit if event[0] == 1 && counter.has(flags::DIR | flags::LOADED) => {
+                let limit = counter.acc == counter.active.ovf;
+                counter.flags |= if limit { flags::OF } else { 0 };
+            }
+            Slip::StagedMask if event[0] == 9 => {
+                let outside = !counter.staged.omb & OUTPUTS;
+                let word = u16::from_le_bytes([event[4], event[5]]);
+                counter.outputs = counter.outputs & !outside | word & outside;
+            }
+            _ => {}
+        }
+        snapshot.copy_from_slice(&snapshot::encode(&counter));
+        0
+    }
+
+    fn read(&self, snapshot: &[u8], fields: &mut [i32; 32]) -> u64 {
+        let status = Model.read(snapshot, fields);
+        if matches!(self, Slip::RefusalWrites) && status != 0 {
+            fields.fill(0);
+        }
+        status
+    }
+
+    fn replay(&self, image: &mut [u8], last: &mut [u8; 68]) -> u64 {
+        match self {
+            Slip::ReplayRefusesAll => 4,
+            _ => Model.replay(image, last),
+        }
+    }
+
+    fn mend(&self, image: &mut [u8], first: u64, patch: &[u8], span: &mut [u32; 2]) -> u64 {
+        let old = image.to_vec();
+        let mut patch = patch.to_vec();
+        let mut status = Model.mend(image, first, &patch, span);
+        if status != 0 {
+            return status;
+        }
+        let parts = Parts::of(image);
+        match self {
+            Slip::MendTouchesNothing => image.copy_from_slice(&old),
+            Slip::MendNods(mended) if mended.replace(true) => image.copy_from_slice(&old),
+            Slip::MendStopsInRun => {
+                let snapshot = |j| parts.snapshot(j)..parts.snapshot(j + 1);
+                let agrees = |j: &usize| image[snapshot(*j)] == old[snapshot(*j)];
+                if let Some(stop) = (span[0] as usize..parts.snapshots).find(agrees) {
+                    let rest = parts.snapshot(stop)..;
+                    image[rest.clone()].copy_from_slice(&old[rest]);
+                    span[1] = stop as u32;
+                }
+            }
+            Slip::MendNamesEnd => span[1] = parts.snapshots as u32,
+            Slip::StampLeftOut => {
+                for (i, event) in patch.as_chunks_mut::<12>().0.iter_mut().enumerate() {
+                    let at = parts.event(first as usize + i);
+                    event[8..].copy_from_slice(&old[at + 8..at + 12]);
+                }
+                image.copy_from_slice(&old);
+                status = Model.mend(image, first, &patch, span);
+            }
+            _ => {}
+        }
+        status
+    }
+}

@@ -1,0 +1,157 @@
+//! Counts of what the cases reached, and what they must reach.
+
+use std::collections::BTreeMap;
+use std::fmt;
+
+use super::case::{Answer, Call, Case};
+use crate::generate::image::Table;
+use crate::model::counter::Counter;
+use crate::model::event::Event;
+use crate::model::{flags, Fate};
+
+#[derive(Default)]
+pub struct Tally {
+    counts: BTreeMap<(&'static str, u32), u64>,
+}
+
+/// Each heading with the numbers that must be reached under it.
+const REQUIRED: [(&str, &[u32]); 20] = [
+    (CHECK, &[0, 1, 9]),
+    (STEP, &[0, 5, 6, 9]),
+    (READ, &[0, 6, 9]),
+    (REPLAY, &[0, 1, 2, 3, 4, 5]),
+    (MEND, &[0, 1, 2, 3, 4, 5, 6, 7, 8]),
+    (AT_PLACE, &[5, 6, 8]),
+    (KIND, &[0, 1, 2, 3, 4, 5, 6, 7, 8, 9]),
+    (MODE, &[0, 1, 2, 3, 4, 5, 6, 7]),
+    (LOAD, &[0, 1, 2, 3, 4, 5]),
+    (PRESET_LOAD, &[0, 3, 4, 5]),
+    (RESET, &[1, 3, 5, 7]),
+    (HELD, &[1, 3, 5, 7]),
+    (RAISED, CAUSES),
+    (STARTED, CAUSES),
+    (WAITED, CAUSES),
+    (LOST, CAUSES),
+    (DROPPED, CAUSES),
+    (STOP_INSIDE, TABLES),
+    (STOP_END, TABLES),
+    (DEMAND_3, &[0, 1]),
+];
+
+const CAUSES: &[u32] = &[1, 2, 3, 4];
+const TABLES: &[u32] = &[0, 1, 2, 3, 4, 5];
+const CHECK: &str = "event check: answer";
+const STEP: &str = "step: refusal";
+const READ: &str = "read: refusal";
+const REPLAY: &str = "replay: refusal";
+const MEND: &str = "mend: refusal";
+const AT_PLACE: &str = "refusal at a place past 0";
+const KIND: &str = "event taken: kind";
+const MODE: &str = "sample taken: mode";
+const RESET: &str = "sample with input 2 rising: mode";
+const HELD: &str = "sample with input 3 on: mode";
+const LOAD: &str = "load: ER";
+const PRESET_LOAD: &str = "preset load: ER";
+const RAISED: &str = "cause raised";
+const STARTED: &str = "cause started";
+const WAITED: &str = "cause waited";
+const LOST: &str = "cause lost";
+const DROPPED: &str = "cause dropped";
+const STOP_INSIDE: &str =
+    "mend stopped inside a table (0 true, 1 one wrong byte, 2 stale, 3 other start, 4 states, 5 noise)";
+const STOP_END: &str = "mend stopped at S (tables as above)";
+const DEMAND_3: &str = "demand 3: 0 stopped inside, 1 at S";
+
+impl Tally {
+    fn add(&mut self, heading: &'static str, number: u32) {
+        *self.counts.entry((heading, number)).or_default() += 1;
+    }
+
+    /// Counts the outcome of a case.
+    pub fn answer(&mut self, case: &Case, answer: &Answer) {
+        let heading = match case.call {
+            Call::EventCheck => CHECK,
+            Call::Step => STEP,
+            Call::Read => READ,
+            Call::Replay => REPLAY,
+            Call::Mend => MEND,
+        };
+        self.add(heading, answer.number());
+        if answer.status >> 32 != 0 {
+            self.add(AT_PLACE, answer.number());
+        }
+    }
+
+    /// Counts a mend without refusal: what the table held and where the mend stopped.
+    pub fn mended(&mut self, table: Table, stop: u32, snapshots: usize) {
+        let inside = (stop as usize) < snapshots;
+        self.add(if inside { STOP_INSIDE } else { STOP_END }, table as u32);
+    }
+
+    pub fn demand_3(&mut self, stopped_inside: bool) {
+        self.add(DEMAND_3, (!stopped_inside).into());
+    }
+
+    /// Takes an event on a state and counts what happens in it.
+    pub fn event(&mut self, counter: &mut Counter, event: Event) {
+        self.add(KIND, event.kind.into());
+        match (event.kind, event.sub, event.value) {
+            (1, _, levels) => self.sample(counter, levels as u8),
+            (4, 6, 1) if !counter.has(flags::SP) => self.load(LOAD, counter, event),
+            (8, ..) if counter.has(flags::AS) => self.load(LOAD, counter, event),
+            (6, ..) if counter.has(flags::LOADED) => self.load(PRESET_LOAD, counter, event),
+            _ => counter.step(event),
+        }
+    }
+
+    fn load(&mut self, heading: &'static str, counter: &mut Counter, event: Event) {
+        counter.step(event);
+        self.add(heading, counter.er.into());
+    }
+
+    fn sample(&mut self, counter: &mut Counter, levels: u8) {
+        let mode = counter.active.mode as u32;
+        if counter.has(flags::LOADED) {
+            self.add(MODE, mode);
+            if levels & !counter.levels & 4 != 0 {
+                self.add(RESET, mode);
+            }
+            if levels & 8 != 0 {
+                self.add(HELD, mode);
+            }
+        }
+        if let Some((cause, fate)) = counter.sample(levels) {
+            self.add(RAISED, cause.into());
+            let heading = match fate {
+                Fate::Started => STARTED,
+                Fate::Waited => WAITED,
+                Fate::Lost => LOST,
+                Fate::Dropped => DROPPED,
+            };
+            self.add(heading, cause.into());
+        }
+    }
+
+    /// The required outcomes that no case reached.
+    pub fn missing(&self) -> Vec<String> {
+        REQUIRED
+            .iter()
+            .flat_map(|&(heading, numbers)| numbers.iter().map(move |&number| (heading, number)))
+            .filter(|key| !self.counts.contains_key(key))
+            .map(|(heading, number)| format!("{heading} {number}"))
+            .collect()
+    }
+}
+
+impl fmt::Display for Tally {
+    fn fmt(&self, f: &mut fmt::Formatter) -> fmt::Result {
+        for (heading, _) in REQUIRED {
+            write!(f, "{heading}:")?;
+            for ((_, number), count) in self.counts.range((heading, 0)..=(heading, u32::MAX)) {
+                write!(f, "  {number}: {count}")?;
+            }
+            writeln!(f)?;
+        }
+        Ok(())
+    }
+}

@@ -1,0 +1,11 @@
+//! An independent model of document 01, the harness that runs the same
+//! cases on the model and on a subject, and the declarations of the archive.
+
+#[cfg(feature = "archive")]
+pub mod ffi;
+pub mod generate;
+pub mod harness;
+pub mod model;
+pub mod subject;
+
+pub use model::{event_check, mend, read, replay, step};

@@ -1,0 +1,86 @@
+//! The model's five calls, on slices as the C surface has them. A status holds the refusal's
+//! number in the low 32 bits and its place in the high 32; 0 is done. A refusal leaves every
+//! lent buffer as it was.
+
+pub mod counter;
+pub mod event;
+pub mod flags;
+mod interrupt;
+mod sample;
+pub mod settings;
+pub mod snapshot;
+pub mod trace;
+
+pub use interrupt::Fate;
+
+use event::Event;
+
+/// Why a call was refused: a number of the refusal table and its place.
+#[derive(Clone, Copy, PartialEq, Eq, Debug)]
+pub struct Refusal {
+    pub number: u32,
+    pub place: usize,
+}
+
+impl Refusal {
+    pub const fn new(number: u32, place: usize) -> Refusal {
+        Refusal { number, place }
+    }
+
+    pub const fn status(self) -> u64 {
+        self.number as u64 | (self.place as u64) << 32
+    }
+}
+
+const WRONG_SIZE: Refusal = Refusal::new(9, 0);
+
+fn status(answer: Result<(), Refusal>) -> u64 {
+    answer.map_or_else(Refusal::status, |()| 0)
+}
+
+/// 1 for a legal event, 0 for an illegal one, 9 for a length other than 12.
+pub fn event_check(event: &[u8]) -> u32 {
+    match event.try_into() {
+        Ok(bytes) => Event::from_bytes(bytes).is_legal().into(),
+        Err(_) => WRONG_SIZE.number,
+    }
+}
+
+/// Writes the snapshot after the event over the lent one. Refusals 9, 5, 6.
+pub fn step(snapshot: &mut [u8], event: &[u8]) -> u64 {
+    status(try_step(snapshot, event))
+}
+
+fn try_step(snapshot: &mut [u8], event: &[u8]) -> Result<(), Refusal> {
+    let snapshot: &mut snapshot::Bytes = snapshot.try_into().map_err(|_| WRONG_SIZE)?;
+    let event = Event::from_bytes(event.try_into().map_err(|_| WRONG_SIZE)?);
+    if !event.is_legal() {
+        return Err(Refusal::new(5, 0));
+    }
+    let mut counter = snapshot::decode_at(snapshot, 0)?;
+    counter.step(event);
+    *snapshot = snapshot::encode(&counter);
+    Ok(())
+}
+
+/// Writes the state and the bits that are shown but not stored. Refusals 9, 6.
+pub fn read(snapshot: &[u8], fields: &mut [i32; 32]) -> u64 {
+    status(try_read(snapshot, fields))
+}
+
+fn try_read(snapshot: &[u8], fields: &mut [i32; 32]) -> Result<(), Refusal> {
+    let snapshot = snapshot.try_into().map_err(|_| WRONG_SIZE)?;
+    *fields = snapshot::decode_at(snapshot, 0)?.fields();
+    Ok(())
+}
+
+/// Writes every snapshot of the image, and the final state over `last`. Refusals 1 to 5.
+pub fn replay(image: &mut [u8], last: &mut snapshot::Bytes) -> u64 {
+    status(trace::replay(image).map(|state| *last = snapshot::encode(&state)))
+}
+
+/// Copies the patch over the events from `first` and mends the table after them; `span`
+/// takes s + 1 and the stop. Refusals 1 to 5, 7, 8, 6.
+pub fn mend(image: &mut [u8], first: u64, patch: &[u8], span: &mut [u32; 2]) -> u64 {
+    status(trace::mend(image, first, patch).map(|answer| *span = answer))
+}

@@ -1,0 +1,338 @@
+//! Document 01's own rows of the counter: the bench table, the load rows, single events and
+//! the snapshot's layout.
+
+use hsc_tests::generate::event::event;
+use hsc_tests::model::counter::Counter;
+use hsc_tests::model::event::Bytes;
+use hsc_tests::model::flags::*;
+use hsc_tests::model::settings::Settings;
+use hsc_tests::model::snapshot::{decode, encode};
+use hsc_tests::subject::{on_each, Subject};
+
+const DONE: (u8, u8, i32) = (7, 0, 0);
+const ENTER_RUN: (u8, u8, i32) = (8, 0, 0);
+const PRESET_LOAD: (u8, u8, i32) = (6, 0, 0);
+const SP_ON: (u8, u8, i32) = (4, 6, 1);
+const SP_OFF: (u8, u8, i32) = (4, 6, 0);
+/// One count in mode 2, from levels 0.
+const UP: (u8, u8, i32) = (1, 0, 1);
+const DOWN: (u8, u8, i32) = (1, 0, 3);
+
+/// The settings P of the bench table.
+fn p() -> Settings {
+    Settings { pfn: 3, mode: 2, unf: -3, lop: -2, hip: 4, ovf: 5, ..Settings::default() }
+}
+
+/// A counter with these settings loaded that counts and interrupts.
+fn loaded(settings: Settings, acc: i32) -> Counter {
+    Counter {
+        staged: settings,
+        active: settings,
+        acc,
+        flags: MASKS | FE | UIE | CE | LOADED,
+        ..Counter::fresh()
+    }
+}
+
+fn after(subject: &dyn Subject, counter: Counter, events: &[(u8, u8, i32)]) -> Counter {
+    let mut snapshot = encode(&counter);
+    for &(kind, sub, value) in events {
+        let event: Bytes = event(kind, sub, value);
+        assert_eq!(subject.step(&mut snapshot, &event), 0, "event {kind} {sub} {value}");
+    }
+    decode(&snapshot)
+}
+
+#[test]
+fn bench_rows_a_to_j() {
+    let mode_0 = Settings { pfn: 3, hip: 3, ovf: 10, ..Settings::default() };
+    let rows = [
+        ('a', p(), 3, UP, 4, 2, 0),
+        ('b', p(), 5, UP, -3, 4, OF),
+        ('c', p(), -3, UP, -2, 0, 0),
+        ('d', p(), -1, DOWN, -2, 1, 0),
+        ('e', p(), -3, DOWN, 5, 3, UF),
+        ('f', p(), 9, UP, -3, 4, OF),
+        ('g', p(), 9, DOWN, 8, 0, 0),
+        ('h', mode_0, 2, UP, 0, 2, MD),
+        ('i', mode_0, 3, UP, 4, 0, 0),
+        ('j', mode_0, 10, UP, 0, 4, OF),
+    ];
+    on_each(|subject| {
+        for (row, settings, from, count, acc, cause, sticky) in rows {
+            let counter = after(subject, loaded(settings, from), &[count]);
+            assert_eq!((counter.acc, counter.running, counter.waiting), (acc, cause, [0, 0]), "row {row}");
+            assert_eq!(counter.flags & (UF | OF | MD), sticky, "row {row}");
+            assert_eq!(counter.has(DIR), count == UP, "row {row}");
+        }
+    });
+}
+
+#[test]
+fn bench_row_k() {
+    let settings = Settings { hpo: 15, omb: 13, ..p() };
+    on_each(|subject| {
+        for (outputs, want) in [(2, 15), (0, 13)] {
+            let counter = Counter { outputs, ..loaded(settings, 3) };
+            assert_eq!(after(subject, counter, &[UP]).outputs, want);
+        }
+        // The staged mask has no say, and a dropped cause puts its outputs all the same.
+        let mut counter = loaded(settings, 3);
+        counter.staged.omb = 0xffff;
+        counter.flags &= !FE;
+        let counter = after(subject, counter, &[UP]);
+        assert_eq!((counter.outputs, counter.running), (13, 0));
+    });
+}
+
+#[test]
+fn bench_row_l() {
+    let mut counter = Counter { running: 2, waiting: [1, 4], ..loaded(p(), -3) };
+    counter.flags |= HPI;
+    on_each(|subject| {
+        let lost = after(subject, counter, &[DOWN]);
+        assert!(lost.has(UIL | HPI | UF));
+        assert_eq!((lost.running, lost.waiting), (2, [1, 4]));
+        let done = after(subject, lost, &[DONE]);
+        assert_eq!((done.running, done.waiting), (1, [4, 0]));
+        assert_eq!(done.flags & INTERRUPTS, LPI);
+        let none = after(subject, done, &[DONE, DONE]);
+        assert_eq!((none.running, none.waiting), (0, [0, 0]));
+        assert_eq!(none.flags & INTERRUPTS, OFI);
+        assert_eq!(after(subject, none, &[DONE]), none);
+    });
+}
+
+#[test]
+fn load_rows() {
+    let rows = [
+        (Settings { pfn: 2, ..p() }, 1),
+        (Settings { pfn: 256, ..p() }, 1),
+        (Settings { pfn: 3, ..p() }, 0),
+        (Settings { pfn: 255, ..p() }, 0),
+        (Settings { pfn: 2, mode: 8, ..p() }, 1),
+        (Settings { mode: 8, ..p() }, 2),
+        (Settings { mode: -1, ..p() }, 2),
+        (Settings { hip: -2, ..p() }, 3),
+        (Settings { mode: 1, hip: 0, ..p() }, 3),
+        (Settings { hip: 5, ..p() }, 0),
+        (Settings { hip: 6, ..p() }, 4),
+        (Settings { lop: -4, ..p() }, 5),
+        (Settings { mode: 1, lop: -4, ..p() }, 0),
+    ];
+    on_each(|subject| {
+        for (staged, er) in rows {
+            let before = Counter { staged, ..Counter::fresh() };
+            let counter = after(subject, before, &[SP_ON]);
+            let active = if er == 0 { staged } else { Settings::default() };
+            assert_eq!((counter.er, counter.active), (er, active), "{staged:?}");
+            assert!(counter.has(SP));
+            assert_eq!((counter.has(ED), counter.has(LOADED)), (er != 0, er == 0));
+        }
+    });
+}
+
+#[test]
+fn sp_loads_only_when_it_rises() {
+    let wrong = [(3, 1, 2), SP_ON];
+    on_each(|subject| {
+        let rejected = after(subject, loaded(p(), 0), &wrong);
+        assert_eq!((rejected.er, rejected.active), (1, p()));
+        assert!(rejected.has(ED | LOADED | SP));
+        let again = after(subject, rejected, &[(3, 1, 7), SP_ON]);
+        assert_eq!((again.er, again.active.pfn), (1, 3));
+        let risen = after(subject, again, &[SP_OFF, SP_ON]);
+        assert_eq!((risen.er, risen.active.pfn), (0, 7));
+    });
+}
+
+#[test]
+fn preset_load_takes_all_four_or_none() {
+    let staged = Settings { pfn: 9, mode: 9, hip: 1, lop: 0, ovf: -9, unf: 9, omb: 1, hpo: 2, lpo: 3 };
+    on_each(|subject| {
+        let counter = after(subject, Counter { staged, ..loaded(p(), 0) }, &[PRESET_LOAD]);
+        assert_eq!(counter.active, Settings { hip: 1, lop: 0, hpo: 2, lpo: 3, ..p() });
+        for (changed, er) in [((2, 1, 0), 3), ((2, 1, 6), 4), ((2, 2, -4), 5)] {
+            let rejected = after(subject, counter, &[changed, PRESET_LOAD]);
+            assert_eq!((rejected.er, rejected.active), (er, counter.active));
+            assert!(rejected.has(ED));
+        }
+        let unloaded = Counter { staged, ..Counter::fresh() };
+        assert_eq!(after(subject, unloaded, &[PRESET_LOAD]), unloaded);
+    });
+}
+
+#[test]
+fn enter_run_empties_the_queue_and_loads_by_as() {
+    let mut counter = Counter { running: 2, waiting: [1, 4], ..loaded(p(), 3) };
+    counter.flags = counter.flags & !FE | HPI | UIL | UF;
+    on_each(|subject| {
+        let without = after(subject, counter, &[ENTER_RUN]);
+        assert_eq!((without.running, without.waiting, without.acc), (0, [0, 0], 3));
+        assert_eq!(without.flags, counter.flags & !HPI);
+        let accepted = after(subject, counter, &[(3, 4, 1), (3, 1, 7), ENTER_RUN]);
+        assert_eq!(accepted.active.pfn, 7);
+        assert!(accepted.has(FE | AS | UIL | UF));
+        let rejected = after(subject, counter, &[(3, 4, 1), (3, 1, 0), ENTER_RUN]);
+        assert_eq!((rejected.er, rejected.active.pfn), (1, 3));
+        assert!(!rejected.has(FE));
+    });
+}
+
+#[test]
+fn counts_by_mode() {
+    // Levels before, levels after, and the count in modes 0 to 7; -10 is the reset from 10.
+    let rows: [(u8, u8, [i32; 8]); 12] = [
+        (0, 1, [1, 1, 1, 1, 1, 1, 1, 1]),
+        (0, 3, [1, 1, -1, -1, 0, 0, 0, 0]),
+        (2, 3, [1, 1, -1, -1, 1, 1, 0, 0]),
+        (2, 1, [1, 1, 1, 1, 1, 1, 1, 1]),
+        (0, 2, [0, 0, 0, 0, -1, -1, 0, 0]),
+        (1, 0, [0, 0, 0, 0, 0, 0, -1, -1]),
+        (3, 0, [0, 0, 0, 0, 0, 0, -1, -1]),
+        (1, 2, [0, 0, 0, 0, -1, -1, 0, 0]),
+        (1, 1, [0, 0, 0, 0, 0, 0, 0, 0]),
+        (0, 9, [1, 0, 1, 0, 1, 0, 1, 0]),
+        (4, 5, [1, 1, 1, 1, 1, 1, 1, 1]),
+        (0, 5, [1, -10, 1, -10, 1, -10, 1, -10]),
+    ];
+    on_each(|subject| {
+        for (old, new, counts) in rows {
+            for (mode, count) in (0..).zip(counts) {
+                let settings = Settings { mode, hip: 90, ovf: 99, lop: -90, unf: -99, ..p() };
+                let before = Counter { levels: old, ..loaded(settings, 10) };
+                let counter = after(subject, before, &[(1, 0, new.into())]);
+                assert_eq!(counter.acc, 10 + count, "mode {mode}, levels {old} to {new}");
+                assert_eq!((counter.levels, counter.running), (new, 0));
+                let off = Counter { flags: before.flags & !CE, ..before };
+                let counter = after(subject, off, &[(1, 0, new.into())]);
+                assert_eq!(counter.acc, if count == -10 { 0 } else { 10 });
+            }
+        }
+    });
+}
+
+#[test]
+fn counts_at_the_ends_of_32_bits() {
+    let widest = Settings { hip: i32::MAX, ovf: i32::MAX, lop: i32::MIN, unf: i32::MIN, ..p() };
+    on_each(|subject| {
+        for (from, count, acc, cause) in [
+            (i32::MAX, UP, i32::MIN, 4),
+            (i32::MIN, DOWN, i32::MAX, 3),
+            (i32::MAX - 1, UP, i32::MAX, 2),
+            (i32::MIN + 1, DOWN, i32::MIN, 1),
+        ] {
+            let counter = after(subject, loaded(widest, from), &[count]);
+            assert_eq!((counter.acc, counter.running), (acc, cause));
+        }
+    });
+}
+
+#[test]
+fn program_word_keeps_outputs_of_the_mask() {
+    on_each(|subject| {
+        let fresh = after(subject, Counter::fresh(), &[(3, 3, 0x00ff), (9, 0, 0xffff)]);
+        assert_eq!(fresh.outputs, 0x0fff);
+        let masked = loaded(Settings { omb: 0xf0f0, ..p() }, 0);
+        let counter = after(subject, Counter { outputs: 0x0011, ..masked }, &[(9, 0, 0xabcd)]);
+        assert_eq!(counter.outputs, 0x0b1d);
+    });
+}
+
+#[test]
+fn snapshot_layout() {
+    let staged = Settings {
+        pfn: -2,
+        mode: 0x0102,
+        hip: 0x03040506,
+        lop: -3,
+        ovf: 0x0708090a,
+        unf: i32::MIN,
+        omb: 0x0b0c,
+        hpo: 0x0d0e,
+        lpo: 0xf00f,
+    };
+    let counter = Counter {
+        staged,
+        active: Settings { omb: 0x1112, ..p() },
+        acc: -2,
+        outputs: 0x0213,
+        er: 5,
+        flags: LOADED | ED | CE | MD,
+        levels: 9,
+        running: 4,
+        waiting: [3, 1],
+    };
+    #[rustfmt::skip]
+    let bytes = [
+        0xfe, 0xff, 2, 1, 6, 5, 4, 3, 0xfd, 0xff, 0xff, 0xff, 10, 9, 8, 7, 0, 0, 0, 0x80,
+        0x0c, 0x0b, 0x0e, 0x0d, 0x0f, 0xf0,
+        3, 0, 2, 0, 4, 0, 0, 0, 0xfe, 0xff, 0xff, 0xff, 5, 0, 0, 0, 0xfd, 0xff, 0xff, 0xff,
+        0x12, 0x11, 0, 0, 0, 0,
+        0xfe, 0xff, 0xff, 0xff, 0x13, 2, 5, 0, 0x30, 0, 0x0c, 0, 9, 4, 3, 1,
+    ];
+    assert_eq!(encode(&counter), bytes);
+    assert_eq!(decode(&bytes), counter);
+    let want = [
+        -2,
+        0x0102,
+        0x03040506,
+        -3,
+        0x0708090a,
+        i32::MIN,
+        0x0b0c,
+        0x0d0e,
+        0xf00f, // staged
+        3,
+        2,
+        4,
+        -2,
+        5,
+        -3,
+        0x1112,
+        0,
+        0, // active
+        -2,
+        0x0213,
+        5,
+        0x000c_0030,
+        9,
+        4,
+        3,
+        1, // the rest
+        1,
+        1,
+        1,
+        1,
+        0,
+        1, // UIX, UIP, CU, CD, HPR, LPR
+    ];
+    on_each(|subject| {
+        let mut fields = [0; 32];
+        assert_eq!(subject.read(&bytes, &mut fields), 0);
+        assert_eq!(fields, want);
+    });
+}
+
+#[test]
+fn shown_bits() {
+    let mode_1 = Settings { mode: 1, ..p() };
+    let fresh = Counter { flags: CE | MASKS, ..Counter::fresh() };
+    let rows = [
+        (Counter::fresh(), [0, 0, 0, 0, 0, 0]),
+        (fresh, [0, 0, 1, 0, 0, 0]),
+        (loaded(p(), 4), [0, 0, 1, 1, 1, 0]),
+        (loaded(p(), 3), [0, 0, 1, 1, 0, 0]),
+        (loaded(p(), -2), [0, 0, 1, 1, 0, 1]),
+        (loaded(mode_1, -2), [0, 0, 1, 0, 0, 0]),
+        (Counter { running: 1, ..loaded(mode_1, 9) }, [1, 0, 1, 0, 1, 0]),
+        (Counter { running: 1, waiting: [1, 0], ..loaded(p(), 0) }, [1, 1, 1, 1, 0, 0]),
+    ];
+    on_each(|subject| {
+        for (counter, shown) in rows {
+            let mut fields = [0; 32];
+            assert_eq!(subject.read(&encode(&counter), &mut fields), 0);
+            assert_eq!(fields[26..], shown, "{counter:?}");
+        }
+    });
+}

@@ -1,0 +1,28 @@
+//! Each wrong subject is caught by the same cases that the archive passes.
+
+use hsc_tests::harness::{self, slip::Slip};
+
+#[test]
+fn every_slip_is_caught() {
+    for slip in Slip::all() {
+        let failure = harness::run(&slip, 1, 0..20_000).err();
+        let failure = failure.unwrap_or_else(|| panic!("{slip:?} passes"));
+        let line = failure.lines().next().unwrap_or_default();
+        println!("{slip:?}: {}", &line[..line.len().min(150)]);
+    }
+}
+
+/// The wrong mends are caught by demand 3 alone, without the model's answers.
+#[test]
+fn demand_3_alone_catches_wrong_mends() {
+    for slip in [
+        Slip::MendTouchesNothing,
+        Slip::MendNods(false.into()),
+        Slip::MendStopsInRun,
+        Slip::MendNamesEnd,
+        Slip::StampLeftOut,
+    ] {
+        let caught = harness::run_demand_3(&slip, 1, 0..20_000);
+        assert!(caught.is_err(), "{slip:?} passes");
+    }
+}
