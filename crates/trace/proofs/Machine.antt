@@ -1,6 +1,7 @@
 -- The counter keeps the laws of a machine and its codec: a legal event's value fits 32 bits, so its step keeps a good state good; a good
 -- state is read back from its 68 bytes.
-use Prim.Native.Nat.{_+_, _≤_}
+use mathlib.Core.List.{List}
+use Prim.Native.Nat.{ℕ, _+_, _≤_}
 use native.Mathlib.Omega.{arith}
 use lib.ListN.{length}
 use mir.Syntax.{w32}
@@ -15,8 +16,6 @@ use Rattle.counter.proofs.Steps.{step-good}
 use Rattle.snapshot.specs.EventBytes.{eventOf, stepEvent}
 use Rattle.snapshot.proofs.RoundTrip.{length-encode, decode-encode}
 use Rattle.trace.specs.Counting.{Legal, counting, codec}
-use mathlib.Core.List.{List}
-use Prim.Native.Nat.{ℕ}
 
 event-good : (c : Counter) (e : List ℕ) → Good c → Legal e → Good (stepEvent e c)
 unfolding stepEvent eventOf
