@@ -27,7 +27,15 @@ pub fn answer(image: &mut [u8], line: &mut [u8]) -> usize
             let events = header::number(image, header::EVENT_COUNT) as u64;
             let snapshots = header::number(image, header::SNAPSHOT_COUNT) as u64;
             let last = replayed.last;
-            replay_line(line, events, snapshots, last.acc, last.out, last.er, last.flags)
+            replay_line(
+                line,
+                events,
+                snapshots,
+                last.acc,
+                last.out,
+                last.er,
+                last.flags,
+            )
         }
     }
 }

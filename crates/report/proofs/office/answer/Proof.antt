@@ -54,7 +54,6 @@ module _ (c : tie.After-enum-told) where
   kept : (at : ℕ) → at + 4 ≤ 24 → numberAt (replayed .replay .last .0) at 4 ≡ numberAt (image replayed) at 4
   kept at h = ap (λ (l : List ℕ). numberAt l at 4) (replayed .replay .ensures .1 .0) ∙ replay-number (image replayed) bytes valid at h
 
-
 replay-requires : tie.Need-replay-requires
 replay-requires c κs = search needs
 
@@ -114,8 +113,7 @@ returns-2 c =
     let events = first .number .ensures ∙ kept told 0 (omega arith) in
     let snapshots = read .number2 .ensures ∙ kept told 8 (omega arith) in
     let signed = ap (λ (z : ℤ). replayLine (first .number .result) (read .number2 .result) z (last .out) (last .er) (last .flags)) (signed-unsigned (typed .acc)) in
-    let counted = ap₂ (λ (a b : ℕ). replayLine a b (last .acc) (last .out) (last .er) (last .flags)) events snapshots in
-    (
+    let counted = ap₂ (λ (a b : ℕ). replayLine a b (last .acc) (last .out) (last .er) (last .flags)) events snapshots in (
       done .replay-line .ensures .0 ∙ signed ∙ counted ∙ ap (lineOf (eventCount old) (snapshotCount old)) (given-told told),
       done .replay-line .ensures .1,
     )
