@@ -5,10 +5,13 @@ use mathlib.Core.Bool.{Bool, true, false, cond, _||_, false≢true}
 use mathlib.Core.List.{List}
 use Prim.Native.Nat.{ℕ}
 use native.Mathlib.Omega.{arith}
+use Rattle.counter.specs.declared.state.Counter.{Counter}
 use Rattle.trace.specs.declared.refusal.Refusal.{Refusal}
 use Rattle.trace.specs.declared.refusal.Verdict.{Verdict}
 use Rattle.trace.specs.declared.refusal.Verdict.the-variants.{Refused, Accepted}
+use Rattle.trace.specs.declared.replaying.Replayed.{Replayed}
 use Rattle.trace.specs.Refusals.{Answer, refused, given, refusal, verdictOf, _andThen_, changedIf}
+use Rattle.trace.specs.Replays.{replayOf}
 
 -- ---- tests in a row
 
@@ -63,3 +66,15 @@ module _ (v : Verdict) (a : Answer Unit) (told : verdictOf v ≡ a) where
 
     pub accepted-changed : (old : List ℕ) {new after : List ℕ} → after ≡ new → after ≡ changedIf a old new
     accepted-changed old {new} h = h ∙ sym (ap (λ (t : Answer Unit). changedIf t old new) accepted-told)
+
+-- ---- what a match on replay's verdict told of its answer
+
+module _ (r : Replayed) {a : Answer Counter} (told : replayOf r ≡ a) where
+  with-last : {v : Verdict} → r .verdict ≡ v → (verdictOf v andThen given (r .last)) ≡ a
+  with-last e = sym (ap (λ (v : Verdict). verdictOf v andThen given (r .last)) e) ∙ told
+
+  pub replay-refused : (f : Refusal) → r .verdict ≡ Refused f → refusal f ≡ a
+  replay-refused f e = with-last e
+
+  pub replay-given : r .verdict ≡ Accepted → given (r .last) ≡ a
+  replay-given e = with-last e

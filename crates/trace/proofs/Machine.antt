@@ -1,11 +1,14 @@
 -- The counter keeps the laws of a machine and its codec: a legal event's value fits 32 bits, so its step keeps a good state good; a good
--- state is read back from its 68 bytes.
+-- state is read back from its 68 bytes, and well-formed bytes are those of the state that is read from them.
+use mathlib.Core.Path.{_≡_}
+use mathlib.Core.Bool.{true}
 use mathlib.Core.List.{List}
 use Prim.Native.Nat.{ℕ, _+_, _≤_}
 use native.Mathlib.Omega.{arith}
 use lib.ListN.{length}
 use mir.Syntax.{w32}
 use mir.Val.{Fits}
+use Rattle.word.specs.Part.{Bytes}
 use Rattle.word.specs.LittleEndian.{numberAt}
 use Rattle.word.proofs.LittleEndian.{numberAt-lt}
 use Rattle.word.proofs.TwosComplement.{sfits-signed}
@@ -13,8 +16,9 @@ use Rattle.replay.specs.Machine.{Laws}
 use Rattle.counter.specs.declared.state.Counter.{Counter}
 use Rattle.counter.specs.WellFormed.{Good}
 use Rattle.counter.proofs.Steps.{step-good}
+use Rattle.snapshot.specs.FormedBytes.{formed}
 use Rattle.snapshot.specs.EventBytes.{eventOf, stepEvent}
-use Rattle.snapshot.proofs.RoundTrip.{length-encode, decode-encode}
+use Rattle.snapshot.proofs.RoundTrip.{length-encode, decode-encode, encode-decode, good-decode}
 use Rattle.trace.specs.Counting.{Legal, counting, codec}
 
 event-good : (c : Counter) (e : List ℕ) → Good c → Legal e → Good (stepEvent e c)
@@ -31,3 +35,7 @@ counter-laws =
       length-encode = λ c good. length-encode c;
       decode-encode = decode-encode;
     }
+
+-- the other way, which mending has no need of
+pub counter-back : (b : List ℕ) → Bytes b → length b ≡ codec .size → formed b ≡ true → Good (codec .decode b) × (codec .encode (codec .decode b) ≡ b)
+counter-back b bytes long f = (good-decode b bytes long f, encode-decode b bytes long)

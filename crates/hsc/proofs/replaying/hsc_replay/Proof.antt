@@ -1,13 +1,13 @@
 -- `hsc::replaying::hsc_replay` meets its contract: a refusal's status is its number and place, and a replay's last state is encoded over `last`.
 use borrow.Author.Needs.{needs}
-use mathlib.Core.Path.{_≡_, sym, ap, _∙_}
+use mathlib.Core.Path.{_≡_, sym, _∙_}
 use denote.Ref.{now}
 use Rattle.counter.specs.declared.state.Counter.{Counter}
 use Rattle.snapshot.specs.Snapshots.{encode}
 use Rattle.snapshot.proofs.RoundTrip.{length-encode}
-use Rattle.trace.specs.declared.refusal.Verdict.{Verdict}
-use Rattle.trace.specs.Refusals.{Answer, given, refusal, verdictOf, _andThen_}
+use Rattle.trace.specs.Refusals.{Answer, given, refusal}
 use Rattle.trace.specs.Replays.{replayAnswer}
+use Rattle.trace.proofs.Answers.{replay-refused, replay-given}
 use Rattle.trace.proofs.Bounds.{replay-place}
 use Rattle.hsc.proofs.Traced.{refused-status, refused-after, given-status, given-after}
 use Rattle.hsc.proofs.Whole.{put-whole}
@@ -20,14 +20,10 @@ answer c = replayAnswer (now (c .before .before .before .args .image))
 
 -- and what the match told of it
 given-told : (c : tie.After-enum-told) → given (c .before .before .before .before .replay .result .last) ≡ answer (c .before .before .before .before)
-given-told c =
-    let replay = c .before .before .before .before .replay in
-    sym (ap (λ (v : Verdict). verdictOf v andThen given (replay .result .last)) (c .enum-told .given .1)) ∙ replay .ensures .0
+given-told c = replay-given _ (c .before .before .before .before .replay .ensures .0) (c .enum-told .given .1)
 
 refused-told : (c : tie.After-known-told) → refusal (c .before .verdict .given .0 .0) ≡ answer (c .before .before .before .before .before)
-refused-told c =
-    let replay = c .before .before .before .before .before .replay in
-    sym (ap (λ (v : Verdict). verdictOf v andThen given (replay .result .last)) (c .before .verdict .given .1)) ∙ replay .ensures .0
+refused-told c = replay-refused _ (c .before .before .before .before .before .replay .ensures .0) _ (c .before .verdict .given .1)
 
 replay-requires : tie.Need-replay-requires
 replay-requires c κs = search needs

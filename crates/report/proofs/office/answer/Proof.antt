@@ -10,11 +10,10 @@ use Rattle.word.proofs.TwosComplement.{signed-unsigned}
 use Rattle.counter.proofs.Told.{counter-told}
 use Rattle.word.specs.Part.{Bytes}
 use Rattle.word.specs.LittleEndian.{numberAt}
-use Rattle.trace.specs.declared.refusal.Verdict.{Verdict}
-use Rattle.trace.specs.Refusals.{given, refusal, verdictOf, _andThen_}
+use Rattle.trace.specs.Refusals.{given, refusal}
 use Rattle.trace.specs.Verdicts.{eventCount, snapshotCount, verdict, ValidTrace}
-use Rattle.trace.specs.Replays.{finalState, replayAnswer, replayImage}
-use Rattle.trace.proofs.Answers.{both-passed}
+use Rattle.trace.specs.Replays.{finalState, replayAnswer}
+use Rattle.trace.proofs.Answers.{both-passed, replay-refused, replay-given}
 use Rattle.trace.proofs.Accepted.{valid-passed}
 use Rattle.trace.proofs.Theorem.{replay-length, replay-number}
 use Rattle.report.specs.Line.{refusalLine, replayLine}
@@ -28,14 +27,10 @@ image c = now (c .before .before .before .before .args .image)
 
 -- what the match told of replay's answer
 refused-told : (c : tie.After-known-told) → refusal (c .before .verdict .given .0 .0) ≡ replayAnswer (image (c .before .before .before .before .before))
-refused-told c =
-    let replay = c .before .before .before .before .before .replay in
-    sym (ap (λ (v : Verdict). verdictOf v andThen given (replay .result .last)) (c .before .verdict .given .1)) ∙ replay .ensures .0
+refused-told c = replay-refused _ (c .before .before .before .before .before .replay .ensures .0) _ (c .before .verdict .given .1)
 
 given-told : (c : tie.After-enum-told) → given (c .before .before .before .before .replay .result .last) ≡ replayAnswer (image (c .before .before .before .before))
-given-told c =
-    let replay = c .before .before .before .before .replay in
-    sym (ap (λ (v : Verdict). verdictOf v andThen given (replay .result .last)) (c .enum-told .given .1)) ∙ replay .ensures .0
+given-told c = replay-given _ (c .before .before .before .before .replay .ensures .0) (c .enum-told .given .1)
 
 -- an image that was replayed: its header is the old one
 module _ (c : tie.After-enum-told) where
