@@ -1,7 +1,7 @@
 // The C surface: what the depot's program calls, with numbers and lent buffers. Document 01, "Trace image", has the refusals.
-pub mod answer;
+mod answer;
 pub mod checking;
-pub mod filling;
+mod filling;
 pub mod mending;
 pub mod reading;
 pub mod replaying;
