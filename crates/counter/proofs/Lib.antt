@@ -1,5 +1,6 @@
 -- What code knows of a counter, and the laws of the definitions in `specs/`.
 pub mod Bench
+pub mod ByKind
 pub mod Changes
 pub mod Exact
 pub mod Flags

@@ -20,7 +20,7 @@ use Rattle.counter.specs.Parts.{AS, SP, FE, flag, on, off, withStaged, w
 use Rattle.counter.specs.Loading.{firstBroken, accepted, rejected, load, presetLoad}
 use Rattle.counter.specs.Interrupts.{quiet, finish}
 use Rattle.counter.specs.Sample.{sample}
-use Rattle.counter.specs.Events.{isZero, takesBit, takesZero, legalFlag, legal, levelsOf, wordOf, shortOf, staged, stagedWrite, device, setTo, deviceWrite, spRises, flagWrite, emptied, autoStart, enterRun, programWord, outputWrite, apply, step}
+use Rattle.counter.specs.Events.{isZero, takesBit, takesZero, legalFlag, legal, levelsOf, wordOf, shortOf, staged, stagedWrite, device, setTo, deviceWrite, spRises, flagWrite, emptied, autoStart, enterRun, programWord, outputWrite, control, apply, step}
 use Rattle.counter.specs.WellFormed.{SettingsTyped, Typed, Good, wellFormed, causesFormed, queueFormed, errorFormed, activeFormed, isNone}
 use Rattle.counter.proofs.Flags.{Other, other, kept-set, kept-clear, kept-quiet}
 use Rattle.counter.proofs.Legal.{flag-below}
@@ -117,7 +117,7 @@ unfolding legal
 flagged kind sub v e l = rw e at l
 
 well-apply : (c : Counter) (kind sub : ℕ) (v : ℤ) → Well c → SFits w32 v → legal kind sub v ≡ true → Well (apply kind sub v c)
-unfolding apply stagedWrite
+unfolding apply control stagedWrite
 well-apply c kind sub v w h l =
     well-cond (eqb kind 1) _ _ (λ k. well-sample c w (levelsOf v) (le-of-suc-le-suc (mod-lt (unsigned w32 v) (lit< tt))))
     (λ k. well-cond (eqb kind 2) _ _ (λ k. well-staged c w (staged sub v (c .staged)) (staged-typed sub v (c .staged) h (w .typed .staged)))

@@ -71,6 +71,10 @@ legal kind sub v =
     (cond (eqb kind 5) (eqb sub 0)
     (cond (from 6 8 kind) (eqb sub 0 && isZero v) (cond (eqb kind 9) (eqb sub 0 && isWord v) false)))))))
 
+-- a legal input sample
+abbrev pub isSample : ℕ → ℕ → ℤ → Bool
+isSample kind sub v = eqb kind 1 && eqb sub 0 && isLevels v
+
 -- ---- values, cut to their part's width, which a legal value fits
 
 abbrev pub levelsOf : ℤ → ℕ
@@ -141,17 +145,24 @@ outputWrite v c = withOut (programWord (c .active .omb) (wordOf v) (c .out)) c
 
 -- ---- the step; an event that is not legal changes nothing
 
-unfoldable pub apply : ℕ → ℕ → ℤ → Counter → Counter
-apply kind sub v c =
-    cond (eqb kind 1) (sample (levelsOf v) c)
-    (cond (eqb kind 2) (stagedWrite sub v c)
+-- every kind but a sample
+unfoldable pub control : ℕ → ℕ → ℤ → Counter → Counter
+control kind sub v c =
+    cond (eqb kind 2) (stagedWrite sub v c)
     (cond (eqb kind 3) (deviceWrite sub v c)
     (cond (eqb kind 4) (flagWrite sub v c)
     (cond (eqb kind 5) (withAcc v c)
     (cond (eqb kind 6) (presetLoad c)
     (cond (eqb kind 7) (finish c)
     (cond (eqb kind 8) (enterRun c)
-    (cond (eqb kind 9) (outputWrite v c) c))))))))
+    (cond (eqb kind 9) (outputWrite v c) c)))))))
+
+unfoldable pub apply : ℕ → ℕ → ℤ → Counter → Counter
+apply kind sub v c = cond (eqb kind 1) (sample (levelsOf v) c) (control kind sub v c)
 
 unfoldable pub step : ℕ → ℕ → ℤ → Counter → Counter
 step kind sub v c = cond (legal kind sub v) (apply kind sub v c) c
+
+-- the step where no sample is asked for
+unfoldable pub stepControl : ℕ → ℕ → ℤ → Counter → Counter
+stepControl kind sub v c = cond (legal kind sub v) (control kind sub v c) c

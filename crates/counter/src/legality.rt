@@ -1,6 +1,6 @@
 // Which events are legal, by kind, sub and value.
 ghost use mathlib.Core.Path.{_≡_};
-ghost use Rattle.counter.specs.Events.{isZero, isBit, isLevels, isWord, isShort, legalStaged, legalDevice, takesBit, takesZero, legalFlag, legal};
+ghost use Rattle.counter.specs.Events.{isZero, isBit, isLevels, isWord, isShort, legalStaged, legalDevice, takesBit, takesZero, legalFlag, legal, isSample};
 
 pub fn is_zero(v: i32) -> bool
     ensures { λ r. ⌜ r ≡ isZero v ⌝ }
@@ -94,4 +94,11 @@ pub fn legal(kind: u8, sub: u8, v: i32) -> bool
         9 => (sub == 0) & is_word(v),
         _ => false,
     }
+}
+
+// Whether the event is a legal input sample.
+pub fn is_sample(kind: u8, sub: u8, v: i32) -> bool
+    ensures { λ r. ⌜ r ≡ isSample kind sub v ⌝ }
+{
+    (kind == 1) & (sub == 0) & is_levels(v)
 }

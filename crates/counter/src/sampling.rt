@@ -82,7 +82,7 @@ fn reset(flags: u32) -> Sampled
 }
 
 // What the sample makes of ACC and the flags.
-fn sampled(c: Counter, new: u8) -> Sampled
+pub fn sampled(c: Counter, new: u8) -> Sampled
     ensures { λ r. ⌜ r ≡ sampled new c ⌝ }
 {
     let a = c.active;

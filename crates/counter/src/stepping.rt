@@ -15,9 +15,10 @@ ghost use mathlib.Core.Bool.{true};
 ghost use Prim.Native.Nat.{_<_};
 ghost use Rattle.counter.specs.Parts.{withAcc, on, SP, FE};
 ghost use Rattle.counter.specs.Loading.{load};
-ghost use Rattle.counter.specs.Events.{legal, levelsOf, wordOf, shortOf, staged, stagedWrite, device, setTo, deviceWrite, spRises, flagWrite, emptied, autoStart, enterRun, outputWrite, apply, step};
+ghost use Rattle.counter.specs.Events.{legal, levelsOf, wordOf, shortOf, staged, stagedWrite, device, setTo, deviceWrite, spRises, flagWrite, emptied, autoStart, enterRun, outputWrite, control, apply, step, stepControl};
 
-fn levels_of(v: i32) -> u8
+// The levels that a sample's value gives.
+pub fn levels_of(v: i32) -> u8
     ensures { λ r. ⌜ r ≡ levelsOf v ⌝ }
 {
     (sign::u32_of(v) % 16) as u8
@@ -225,13 +226,12 @@ fn output_write(c: Counter, v: i32) -> Counter
     d
 }
 
-// The step of a legal event, by its kind.
-fn apply(c: Counter, kind: u8, sub: u8, v: i32) -> Counter
+// The step of a legal event that is no sample, by its kind.
+fn control(c: Counter, kind: u8, sub: u8, v: i32) -> Counter
     requires { ⌜ legal kind sub v ≡ true ⌝ }
-    ensures { λ r. ⌜ r ≡ apply kind sub v c ⌝ }
+    ensures { λ r. ⌜ r ≡ control kind sub v c ⌝ }
 {
     match kind {
-        1 => sampling::sample(c, levels_of(v)),
         2 => staged_write(c, sub, v),
         3 => device_write(c, sub, v),
         4 => flag_write(c, sub, v),
@@ -244,12 +244,35 @@ fn apply(c: Counter, kind: u8, sub: u8, v: i32) -> Counter
     }
 }
 
+// The step of a legal event.
+fn apply(c: Counter, kind: u8, sub: u8, v: i32) -> Counter
+    requires { ⌜ legal kind sub v ≡ true ⌝ }
+    ensures { λ r. ⌜ r ≡ apply kind sub v c ⌝ }
+{
+    if kind == 1 {
+        sampling::sample(c, levels_of(v))
+    } else {
+        control(c, kind, sub, v)
+    }
+}
+
 // The counter after an event; one that is not legal changes nothing.
 pub fn step(c: Counter, kind: u8, sub: u8, v: i32) -> Counter
     ensures { λ r. ⌜ r ≡ step kind sub v c ⌝ }
 {
     if legality::legal(kind, sub, v) {
         apply(c, kind, sub, v)
+    } else {
+        c
+    }
+}
+
+// The same after an event that is no legal sample.
+pub fn step_control(c: Counter, kind: u8, sub: u8, v: i32) -> Counter
+    ensures { λ r. ⌜ r ≡ stepControl kind sub v c ⌝ }
+{
+    if legality::legal(kind, sub, v) {
+        control(c, kind, sub, v)
     } else {
         c
     }
