@@ -1,14 +1,12 @@
 // An event in its 12 bytes.
 use counter::legality;
-use counter::state::Counter;
-use counter::stepping;
 use word::bytes;
 ghost use mathlib.Core.Path.{_≡_};
 ghost use Prim.Native.Nat.{_+_, _≤_};
 ghost use lib.ListN.{length};
 ghost use Rattle.word.specs.Part.{part};
 ghost use Rattle.snapshot.specs.Widths.{eventSize};
-ghost use Rattle.snapshot.specs.EventBytes.{eventOf, reservedZero, legalEvent, stepEvent};
+ghost use Rattle.snapshot.specs.EventBytes.{eventOf, reservedZero, legalEvent};
 
 // What an event asks for; its stamp is left out.
 pub struct Event {
@@ -37,20 +35,15 @@ pub fn reserved_zero(s: &[u8], at: usize) -> bool
     bytes::read_u16(s, at + 2) == 0
 }
 
-// Whether the event from place at is legal.
+// Whether the event from place at is legal; nearly all are samples, so those are told first.
 pub fn legal_event(s: &[u8], at: usize) -> bool
     requires { ⌜ at + eventSize ≤ length (now s) ⌝ }
     ensures { λ r. ⌜ r ≡ legalEvent (part (now (s .entry)) at eventSize) ⌝ }
 {
     let e = read_event(s, at);
-    reserved_zero(s, at) & legality::legal(e.kind, e.sub, e.value)
-}
-
-// The counter after the event from place at.
-pub fn step_event(c: Counter, s: &[u8], at: usize) -> Counter
-    requires { ⌜ at + eventSize ≤ length (now s) ⌝ }
-    ensures { λ r. ⌜ r ≡ stepEvent (part (now (s .entry)) at eventSize) c ⌝ }
-{
-    let e = read_event(s, at);
-    stepping::step(c, e.kind, e.sub, e.value)
+    if legality::is_sample(e.kind, e.sub, e.value) {
+        reserved_zero(s, at)
+    } else {
+        reserved_zero(s, at) & legality::legal(e.kind, e.sub, e.value)
+    }
 }

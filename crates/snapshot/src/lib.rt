@@ -2,6 +2,7 @@
 pub mod codec;
 pub mod event;
 pub mod form;
+pub mod in_place;
 pub mod settings;
 
 // The bytes of a snapshot.

@@ -3,17 +3,17 @@ use mathlib.Core.Path.{_≡_, refl, sym, ap, _∙_}
 use mathlib.Core.Bool.{Bool, true, false, _&&_, false≢true}
 use mathlib.Core.List.{List, [], _∷_, _++_}
 use Prim.Native.Nat.{ℕ, zero, suc, _+_, _<_, _≤_}
-use native.Mathlib.Nat.{suc-inj, suc-ne-zero}
+use native.Mathlib.Nat.{suc-inj, suc-ne-zero, le-of-suc-le-suc}
 use native.Mathlib.Numerals.{add-one}
 use native.Mathlib.Omega.{arith}
 use borrow.Author.Tests.{leb-true}
 use lib.Dec.{leb, lit≤}
-use lib.ListN.{length, getD, take, drop, length-append, length-drop, take-append-drop}
+use lib.ListN.{length, getD, take, drop, set, length-append, length-drop, take-append-drop}
 use lib.Seq.{length-take-le, take-at, drop-at, drop-cons}
-use Rattle.word.specs.Part.{Bytes, part}
+use Rattle.word.specs.Part.{Bytes, part, put}
 use Rattle.word.specs.LittleEndian.{toBytes, ofBytes, numberAt}
 use Rattle.word.specs.Layouts.{total, narrow, pack, unpack, Held, none, more}
-use Rattle.word.proofs.Part.{bytes-take, bytes-drop, take-part, drop-part}
+use Rattle.word.proofs.Part.{bytes-take, bytes-drop, take-part, drop-part, put-front, put-append}
 use Rattle.word.proofs.LittleEndian.{length-toBytes, ofBytes-lt, ofBytes-toBytes, toBytes-ofBytes}
 
 and-left : (a b : Bool) → (a && b) ≡ true → a ≡ true
@@ -60,6 +60,18 @@ module _ (ks : List ℕ) (i : ℕ) (h : i < length ks) where
       let rest : List ℕ = drop (i + 1) ks in
       let split : drop i ks ≡ k ∷ rest = rw add-one (drop-cons ks i 0 h) in
       rw (total-drop, split, take-part s at k (total rest), drop-part s at k (total rest))
+
+-- number i of a row is replaced by writing its bytes over those that stand there
+pub pack-set : (ks vs : List ℕ) (i v : ℕ) → i < length ks → length vs ≡ length ks
+    → put (pack ks vs) (total (take i ks)) (toBytes (getD ks i 0) v) ≡ pack ks (set vs i v)
+unfolding pack total
+pack-set [] vs i v h e = absurd (omega arith)
+pack-set (k ∷ ks) [] i v h e = absurd (suc-ne-zero (length ks) (sym e))
+pack-set (k ∷ ks) (w ∷ vs) zero v h e = put-front (toBytes k w) (pack ks vs) (toBytes k v) (length-toBytes k w ∙ sym (length-toBytes k v))
+pack-set (k ∷ ks) (w ∷ vs) (suc i) v h e =
+    ap (λ (n : ℕ). put (toBytes k w ++ pack ks vs) (n + total (take i ks)) (toBytes (getD ks i 0) v)) (sym (length-toBytes k w))
+    ∙ put-append (toBytes k w) (pack ks vs) (total (take i ks)) (toBytes (getD ks i 0) v)
+    ∙ ap (λ (l : List ℕ). toBytes k w ++ l) (pack-set ks vs i v (le-of-suc-le-suc h) (suc-inj e))
 
 -- ---- round trips
 

@@ -3,7 +3,7 @@ use mathlib.Core.Path.{_≡_, refl, sym, ap, _∙_, subst}
 use lib.Dec.{lit<}
 use mathlib.Core.List.{List, [], _∷_, _++_, append-assoc, append-nil}
 use Prim.Native.Nat.{ℕ, zero, suc, _+_, _-_, _≤_, _<_}
-use native.Mathlib.Nat.{add-zero, add-assoc, zero-add, suc-add, le-refl, le-trans, le-add-right}
+use native.Mathlib.Nat.{add-zero, add-assoc, zero-add, suc-add, le-refl, le-trans, le-of-eq, le-add-right}
 use native.Mathlib.Numerals.{add-one}
 use native.Mathlib.Omega.{arith}
 use lib.ListN.{length, take, drop, getD, set, length-append, length-drop, take-append-drop, drop-of-length-le, List·getD-eq-default}
@@ -93,6 +93,16 @@ put-part l at n h =
     ∙ ap (λ (r : List ℕ). take at l ++ r) (take-append-drop n (drop at l))
     ∙ take-append-drop at l
 
+-- ---- the whole of a list
+
+pub part-whole : (l : List ℕ) (n : ℕ) → length l ≡ n → part l 0 n ≡ l
+unfolding part
+part-whole l n e = take-all n l (le-of-eq e)
+
+pub put-whole : (l bs : List ℕ) → length l ≡ length bs → put l 0 bs ≡ bs
+unfolding put
+put-whole l bs e = rw (zero-add, drop-of-length-le l (le-of-eq e), append-nil)
+
 -- ---- writes in a row
 
 -- two writes side by side are one
@@ -107,6 +117,17 @@ put-put l at a b h =
     ∙ append-assoc (take at l) a (b ++ drop (at + length a + length b) l)
     ∙ ap (λ (r : List ℕ). take at l ++ r) (sym (append-assoc a b (drop (at + length a + length b) l)))
     ∙ ap (λ (m : ℕ). take at l ++ ((a ++ b) ++ drop m l)) far
+
+-- a write over a list's front
+pub put-front : (a r bs : List ℕ) → length a ≡ length bs → put (a ++ r) 0 bs ≡ bs ++ r
+unfolding put
+put-front a r bs e = rw (zero-add, drop-at a r (length bs) e)
+
+-- a write past a list's front is a write to what follows it
+pub put-append : (a r : List ℕ) (t : ℕ) (bs : List ℕ) → put (a ++ r) (length a + t) bs ≡ a ++ put r t bs
+unfolding put
+put-append [] r t bs = rw zero-add
+put-append (x ∷ xs) r t bs = rw (suc-add (length xs) t, suc-add (length xs + t) (length bs)) (ap (λ (l : List ℕ). x ∷ l) (put-append xs r t bs))
 
 -- no bytes written: nothing changes
 pub put-nil : (l : List ℕ) (at : ℕ) → put l at [] ≡ l
