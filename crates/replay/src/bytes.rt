@@ -5,21 +5,20 @@ ghost use lib.ListN.{length};
 ghost use Rattle.word.specs.Part.{put};
 ghost use Rattle.replay.specs.Mend.{sameBytes};
 
-// Whether a and b hold the same bytes. It leaves at the first difference.
+// Whether a and b hold the same bytes. It looks at each, so that the compiler compares many at once.
 pub fn same(a: &[u8], b: &[u8]) -> bool
     ensures { λ r. ⌜ r ≡ sameBytes (now (a .entry)) (now (b .entry)) ⌝ }
 {
     if a.len() != b.len() {
         return false;
     }
+    let mut all = true;
     let mut i = 0;
     while i < a.len() {
-        if a[i] != b[i] {
-            return false;
-        }
+        all = all & (a[i] == b[i]);
         i += 1;
     }
-    true
+    all
 }
 
 // The bytes of src over those of dst from place at.

@@ -1,8 +1,8 @@
--- Laws of little-endian numbers, once over the count of bytes: the length, the bound, and both round trips.
+-- Laws of little-endian numbers, once over the count of bytes: the length, the bound, both round trips, and a number in two parts.
 use mathlib.Core.Path.{_≡_, refl, sym, ap, _∙_}
 use mathlib.Core.List.{List, [], _∷_}
 use Prim.Native.Nat.{ℕ, zero, suc, _+_, _*_, _/_, _%_, _^_, _<_, _≤_}
-use native.Mathlib.Nat.{pow-suc, mod-lt}
+use native.Mathlib.Nat.{pow-suc, mod-lt, zero-add, add-zero, suc-add}
 use native.Mathlib.Omega.{arith}
 use lib.Dec.{lit<}
 use lib.ListN.{length, getD}
@@ -62,3 +62,15 @@ numberAt-zero s at e = rw e
 pub numberAt-suc : (s : List ℕ) (at k : ℕ) → at < length s → numberAt s at (suc k) ≡ getD s at 0 + 256 * numberAt s (suc at) k
 unfolding ofBytes part
 numberAt-suc s at k h = rw (drop-cons s at 0 h)
+
+-- the number in one byte
+pub numberAt-one : (s : List ℕ) (at : ℕ) → at < length s → numberAt s at 1 ≡ getD s at 0
+numberAt-one s at h = numberAt-suc s at 0 h ∙ rw (numberAt-zero s (suc at) refl) (omega arith)
+
+-- the number in a + b bytes: the first a of them, and the b bytes after
+pub numberAt-add : (s : List ℕ) (at a b : ℕ) → at + a ≤ length s → numberAt s at (a + b) ≡ numberAt s at a + 256 ^ a * numberAt s (at + a) b
+numberAt-add s at zero b h = rw (zero-add, add-zero, numberAt-zero s at refl) (omega arith)
+numberAt-add s at (suc a) b h =
+    let here : numberAt s at (suc a + b) ≡ getD s at 0 + 256 * numberAt s (suc at) (a + b) = rw suc-add (numberAt-suc s at (a + b) (omega arith)) in
+    let place : at + suc a ≡ suc at + a = omega arith in
+    rw (here, place, numberAt-suc s at a (omega arith), numberAt-add s (suc at) a b (omega arith), pow-suc) (omega arith)

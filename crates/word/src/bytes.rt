@@ -42,18 +42,19 @@ pub fn write_number(s: &mut [u8], at: usize, width: usize, v: u32)
     }
 }
 
+// Two and four bytes are read without a loop, so that the compiler reads them at once.
 pub fn read_u16(s: &[u8], at: usize) -> u16
     requires { ⌜ at + 2 ≤ length (now s) ⌝ }
     ensures { λ r. ⌜ r ≡ numberAt (now (s .entry)) at 2 ⌝ }
 {
-    read_number(s, at, 2) as u16
+    (wide(s[at]) + 256 * wide(s[at + 1])) as u16
 }
 
 pub fn read_u32(s: &[u8], at: usize) -> u32
     requires { ⌜ at + 4 ≤ length (now s) ⌝ }
     ensures { λ r. ⌜ r ≡ numberAt (now (s .entry)) at 4 ⌝ }
 {
-    read_number(s, at, 4)
+    (read_u16(s, at) as u32) + 65536 * (read_u16(s, at + 2) as u32)
 }
 
 pub fn read_i16(s: &[u8], at: usize) -> i16

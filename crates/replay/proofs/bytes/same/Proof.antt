@@ -1,37 +1,53 @@
--- `replay::bytes::same` meets its contract. The invariant: the bytes before i are equal. A difference refutes that the rows are equal,
--- and at the end rows of one length are equal byte by byte. The measure is what is left of `a`.
-use mathlib.Core.Path.{_≡_, sym, ap}
-use Prim.Native.Nat.{ℕ, _≤_, _<_, _-_}
-use borrow.Author.Needs.{needs}
-use borrow.Author.Count.{below-none, below-more}
-use native.Mathlib.Omega.{arith}
+-- `replay::bytes::same` meets its contract. The invariant: what `all` says of the bytes passed, and the comparison of those left, are
+-- together the comparison of the rows. The measure is what is left of `a`.
+use mathlib.Core.Path.{_≡_, refl, sym, ap, _∙_}
+use mathlib.Core.Bool.{Bool, _&&_, and-assoc, and-true}
 use mathlib.Core.List.{List}
-use lib.ListN.{length, getD}
-use lib.Seq.{ext-getD}
-use Rattle.replay.proofs.Mend.{sameBytes-equal, sameBytes-other}
+use Prim.Native.Nat.{ℕ, _+_, _≤_, _<_, _-_, zero-le}
+use borrow.Author.Needs.{needs}
+use native.Mathlib.Numerals.{add-one}
+use native.Mathlib.Omega.{arith}
+use lib.Dec.{eqb}
+use lib.ListN.{length, getD, drop, drop-of-length-le}
+use lib.Seq.{drop-cons}
+use Rattle.replay.specs.Mend.{sameBytes}
+use Rattle.replay.proofs.Mend.{sameBytes-other}
 use Rattle.replay.proofs.bytes.same.Statement.{statement}
 use Rattle.replay.proofs.bytes.same.Tie as tie
 
 abbrev Inv-loop : tie.InvT-loop
-Inv-loop a b i₀ i = (i ≤ length a) × ((k : ℕ) → k < i → getD a k 0 ≡ getD b k 0)
+Inv-loop a b all₀ i₀ all i = (i ≤ length a) × (all && sameBytes (drop i a) (drop i b) ≡ sameBytes a b)
 
 abbrev μ-loop : tie.MeasureT-loop
-μ-loop a b i₀ i = length a - i
+μ-loop a b all₀ i₀ all i = length a - i
+
+module _ (a b : List ℕ) (long : length a ≡ length b) (all : Bool) (i : ℕ) where
+  -- one byte of each, and the rest
+  next : i < length a
+      → all && eqb (getD a i 0) (getD b i 0) && sameBytes (drop (i + 1) a) (drop (i + 1) b) ≡ all && sameBytes (drop i a) (drop i b)
+  unfolding sameBytes
+  next h =
+      let short : i < length b = omega arith in
+      rw (and-assoc, add-one, drop-cons a i 0, drop-cons b i 0)
+
+  -- no byte is left
+  done : length a ≤ i → all ≡ all && sameBytes (drop i a) (drop i b)
+  unfolding sameBytes
+  done h =
+      let short : length b ≤ i = omega arith in
+      rw (drop-of-length-le a h, drop-of-length-le b short, and-true)
 
 returns : tie.Need-returns Inv-loop μ-loop
 returns c = sym (sameBytes-other _ _ (λ e. c .if1 .taken (ap length e)))
 
 loop-holds : tie.Need-loop-holds Inv-loop μ-loop
-loop-holds c = (search needs, below-none _)
+loop-holds c = (zero-le, refl)
 
-shared-slice-read-if2 : tie.Need-shared-slice-read-if2 Inv-loop μ-loop
-shared-slice-read-if2 c = omega arith
+shared-slice-read-all : tie.Need-shared-slice-read-all Inv-loop μ-loop
+shared-slice-read-all c = omega arith
 
-shared-slice-read-if2-2 : tie.Need-shared-slice-read-if2-2 Inv-loop μ-loop
-shared-slice-read-if2-2 c = omega arith
-
-returns-2 : tie.Need-returns-2 Inv-loop μ-loop
-returns-2 c = sym (sameBytes-other _ _ (λ e. c .if2 .taken (ap (λ (l : List ℕ). getD l (c .before .before .before .before .loop .i) 0) e)))
+shared-slice-read-all-2 : tie.Need-shared-slice-read-all-2 Inv-loop μ-loop
+shared-slice-read-all-2 c = omega arith
 
 add-i : tie.Need-add-i Inv-loop μ-loop
 add-i c = omega arith
@@ -40,10 +56,19 @@ loop-less : tie.Need-loop-less Inv-loop μ-loop
 loop-less c = omega arith
 
 loop-again : tie.Need-loop-again Inv-loop μ-loop
-loop-again c = (search needs, below-more _ _ (c .before .before .before .before .loop .inv .1) (c .if2 .left))
+loop-again c =
+    let turn = c .before .before in
+    let at-loop = turn .before in
+    let checked = at-loop .before in
+    let args = checked .before .args in
+    (search needs, next (args .a .now) (args .b .now) (checked .if1 .left) (at-loop .loop .all) (at-loop .loop .i) (turn .loop-test .taken) ∙ at-loop .loop .inv .1)
 
-returns-3 : tie.Need-returns-3 Inv-loop μ-loop
-returns-3 c = sym (sameBytes-equal _ _ (ext-getD 0 _ _ (c .before .before .if1 .left) (λ i h. c .before .loop .inv .1 i (omega arith))))
+returns-2 : tie.Need-returns-2 Inv-loop μ-loop
+returns-2 c =
+    let at-loop = c .before in
+    let checked = at-loop .before in
+    let args = checked .before .args in
+    done (args .a .now) (args .b .now) (checked .if1 .left) (at-loop .loop .all) (at-loop .loop .i) (c .loop-test .left) ∙ at-loop .loop .inv .1
 
 pub same-spec : {M : Type 1} → statement M
 same-spec =
@@ -53,10 +78,9 @@ same-spec =
     μ-loop
     returns
     loop-holds
-    shared-slice-read-if2
-    shared-slice-read-if2-2
-    returns-2
+    shared-slice-read-all
+    shared-slice-read-all-2
     add-i
     loop-less
     loop-again
-    returns-3)
+    returns-2)
