@@ -1,7 +1,7 @@
 -- Rows by a layout, number by number: each number stands at its own place.
 use mathlib.Core.Path.{_≡_, refl, sym, _∙_}
 use mathlib.Core.List.{List, [], _∷_, _++_}
-use Prim.Native.Nat.{ℕ, suc, _+_, _<_, _≤_}
+use Prim.Native.Nat.{ℕ, _+_, _<_, _≤_}
 use native.Mathlib.Nat.{add-zero, add-assoc}
 use native.Mathlib.Omega.{arith}
 use lib.IntN.{ℤ}
@@ -14,7 +14,7 @@ use Rattle.word.specs.LittleEndian.{toBytes, numberAt}
 use Rattle.word.specs.TwosComplement.{signed, unsigned}
 use Rattle.word.specs.Layouts.{total, pack, unpack, Held, none, more}
 use Rattle.word.proofs.Part.{take-part, drop-part, bytes-append}
-use Rattle.word.proofs.LittleEndian.{bytes-toBytes, numberAt-suc, numberAt-zero}
+use Rattle.word.proofs.LittleEndian.{bytes-toBytes, numberAt-one}
 use Rattle.word.proofs.TwosComplement.{signed-unsigned}
 
 -- the numbers of a layout whose first stands i bytes past place at
@@ -42,12 +42,8 @@ numbers-part ks s at = sym (unpack-from ks (part s at (total ks)) 0 0) ∙ unpac
 
 -- ---- one number
 
--- a number of one byte is that byte
-pub number-byte : (s : List ℕ) (at : ℕ) → at < length s → numberAt s at 1 ≡ getD s at 0
-number-byte s at h = numberAt-suc s at 0 h ∙ rw (numberAt-zero s (suc at) refl) (omega arith)
-
 pub byte-at : (s : List ℕ) (at n : ℕ) → at + n ≤ length s → (k : ℕ) → k < n → getD s (at + k) 0 ≡ numberAt s (at + k) 1
-byte-at s at n h k b = sym (number-byte s (at + k) (omega arith))
+byte-at s at n h k b = sym (numberAt-one s (at + k) (omega arith))
 
 -- a signed number that was read is the one at its place
 pub signed-told : (w : Width) {z v : ℤ} → SFits w z → z ≡ v → signed w (unsigned w z) ≡ v

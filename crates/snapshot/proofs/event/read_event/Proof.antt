@@ -5,7 +5,8 @@ use Prim.Native.Nat.{_+_}
 use native.Mathlib.Omega.{arith}
 use denote.Ref.{now}
 use mir.Syntax.{w32}
-use Rattle.snapshot.proofs.Rows.{signed-told, number-byte}
+use Rattle.word.proofs.LittleEndian.{numberAt-one}
+use Rattle.snapshot.proofs.Rows.{signed-told}
 use Rattle.snapshot.proofs.Offsets.{event-part}
 use Rattle.snapshot.proofs.event.read_event.Statement.{statement}
 use Rattle.snapshot.proofs.event.read_event.Tie as tie
@@ -32,8 +33,8 @@ returns c =
     let at = start .args .at in
     rw (event-part s at)
     (λ i. record {
-      kind = sym (number-byte s at (omega (arith, start .pre))) i;
-      sub = sym (number-byte s (at + 1) (omega (arith, start .pre))) i;
+      kind = sym (numberAt-one s at (omega (arith, start .pre))) i;
+      sub = sym (numberAt-one s (at + 1) (omega (arith, start .pre))) i;
       value = signed-told w32 (record { sfits = c .read-i32 .ok }) (c .read-i32 .ensures) i;
     })
 
