@@ -3,15 +3,15 @@ use crate::answer;
 use crate::answer::Answer;
 use snapshot::EVENT_SIZE;
 use snapshot::SNAPSHOT_SIZE;
-use snapshot::codec::decode;
-use snapshot::codec::encode;
 use snapshot::event::legal_event;
-use snapshot::event::step_event;
 use snapshot::form::formed;
+use trace::events::advance;
 ghost use mathlib.Core.Path.{_≡_};
+ghost use mathlib.Core.Bool.{true};
 ghost use lib.ListN.{length};
 ghost use Rattle.snapshot.specs.Widths.{snapshotSize, eventSize};
 ghost use Rattle.snapshot.specs.Snapshots.{encode, decode};
+ghost use Rattle.snapshot.specs.FormedBytes.{formed};
 ghost use Rattle.snapshot.specs.EventBytes.{stepEvent};
 ghost use Rattle.hsc.specs.Calls.{stepVerdict, stepAnswer, stepAfter};
 
@@ -28,14 +28,13 @@ fn step_verdict(snapshot: &[u8], event: &[u8]) -> Answer
     answer::verdict(legal_event(event, 0), formed(snapshot, 0))
 }
 
-// Writes the next snapshot over this one.
+// Writes the next snapshot over this one: a row of one event.
 fn step_over(snapshot: &mut [u8], event: &[u8])
-    requires { ⌜ length (now snapshot) ≡ snapshotSize ⌝ }
+    requires { ⌜ (length (now snapshot) ≡ snapshotSize) × (formed (now snapshot) ≡ true) ⌝ }
     requires { ⌜ length (now event) ≡ eventSize ⌝ }
     ensures { λ _. ⌜ now (snapshot .exit) ≡ encode (stepEvent (now (event .entry)) (decode (now (snapshot .entry)))) ⌝ }
 {
-    let next = step_event(decode(snapshot, 0), event, 0);
-    encode(next, snapshot, 0);
+    advance(event, snapshot, 0, 1);
 }
 
 // Takes the event: the next snapshot stands over the lent one. A refusal leaves it as it was.

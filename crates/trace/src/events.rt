@@ -1,12 +1,15 @@
-// A row of events in a lent slice: the first that is illegal, and the counter after all of them.
-use counter::state::Counter;
+// A row of events in a lent slice: the first that is illegal, and the state after all of them, which stands in its snapshot.
 use snapshot::EVENT_SIZE;
 use snapshot::event;
+use snapshot::in_place;
 ghost use mathlib.Core.Path.{_≡_};
+ghost use mathlib.Core.Bool.{true};
 ghost use Prim.Native.Nat.{_+_, _*_, _≤_};
 ghost use lib.ListN.{length};
 ghost use Rattle.replay.specs.Replay.{run};
-ghost use Rattle.snapshot.specs.Widths.{eventSize};
+ghost use Rattle.snapshot.specs.Widths.{eventSize, snapshotSize};
+ghost use Rattle.snapshot.specs.Snapshots.{decode};
+ghost use Rattle.snapshot.specs.FormedBytes.{formed};
 ghost use Rattle.trace.specs.Counting.{counting, stretch};
 ghost use Rattle.trace.specs.Verdicts.{firstIllegal};
 
@@ -25,16 +28,16 @@ pub fn first_illegal(s: &[u8], at: usize, count: usize) -> usize
     i
 }
 
-// The counter after the count events from byte at on.
-pub fn advance(s: &[u8], start: Counter, at: usize, count: usize) -> Counter
+// Takes the count events from byte at on over a state's snapshot.
+pub fn advance(s: &[u8], state: &mut [u8], at: usize, count: usize)
     requires { ⌜ at + count * eventSize ≤ length (now s) ⌝ }
-    ensures { λ r. ⌜ r ≡ run counting (stretch at) start (now (s .entry)) 0 count ⌝ }
+    requires { ⌜ (length (now state) ≡ snapshotSize) × (formed (now state) ≡ true) ⌝ }
+    ensures state { λ _. ⌜ decode (now (state .exit)) ≡ run counting (stretch at) (decode (now (state .entry))) (now (s .entry)) 0 count ⌝ }
+    ensures formed { λ _. ⌜ formed (now (state .exit)) ≡ true ⌝ }
 {
-    let mut state = start;
     let mut i = 0;
     while i < count {
-        state = event::step_event(state, s, at + i * EVENT_SIZE);
+        in_place::step_over(state, s, at + i * EVENT_SIZE);
         i += 1;
     }
-    state
 }

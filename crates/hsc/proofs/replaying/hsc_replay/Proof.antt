@@ -5,12 +5,12 @@ use denote.Ref.{now}
 use Rattle.counter.specs.declared.state.Counter.{Counter}
 use Rattle.snapshot.specs.Snapshots.{encode}
 use Rattle.snapshot.proofs.RoundTrip.{length-encode}
+use Rattle.word.proofs.Part.{put-whole}
 use Rattle.trace.specs.Refusals.{Answer, given, refusal}
 use Rattle.trace.specs.Replays.{replayAnswer}
 use Rattle.trace.proofs.Answers.{replay-refused, replay-given}
 use Rattle.trace.proofs.Bounds.{replay-place}
 use Rattle.hsc.proofs.Traced.{refused-status, refused-after, given-status, given-after}
-use Rattle.hsc.proofs.Whole.{put-whole}
 use Rattle.hsc.proofs.replaying.hsc_replay.Statement.{statement}
 use Rattle.hsc.proofs.replaying.hsc_replay.Tie as tie
 
