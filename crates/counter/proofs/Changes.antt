@@ -1,17 +1,13 @@
 -- A well-formed state stays so when one part is changed to a value that fits it.
-use mathlib.Core.Path.{_≡_, refl, ap, _∙_, subst}
-use mathlib.Core.Bool.{Bool, true, false, cond, not}
+use mathlib.Core.Path.{_∙_}
 use Prim.Native.Nat.{ℕ, _<_, _≤_, _^_}
-use lib.Dec.{eqb}
 use lib.IntN.{ℤ}
 use mir.Syntax.{w32}
 use mir.Val.{SFits}
-use Rattle.word.specs.Masks.{bit}
 use Rattle.counter.specs.declared.state.Settings.{Settings}
 use Rattle.counter.specs.declared.state.Counter.{Counter}
-use Rattle.counter.specs.Parts.{LOADED, withStaged, withAcc, withOut, withFlags, withLevels}
-use Rattle.counter.specs.Loading.{firstBroken}
-use Rattle.counter.specs.WellFormed.{isNone, activeFormed, SettingsTyped, Typed, Good}
+use Rattle.counter.specs.Parts.{withStaged, withAcc, withOut, withFlags, withLevels}
+use Rattle.counter.specs.WellFormed.{activeFormed, SettingsTyped, Typed, Good}
 use Rattle.counter.proofs.Flags.{Kept}
 use Rattle.counter.proofs.Formed.{Formed, formed-parts, parts-formed}
 

@@ -1,6 +1,6 @@
 -- A load is refused with a rule's number exactly when that rule is the first one broken. The rules are a row of tests, and the number
 -- is the place of the first that fails, by induction on the row.
-use mathlib.Core.Path.{_≡_, refl, sym, ap, _∙_}
+use mathlib.Core.Path.{_≡_, refl, sym, _∙_}
 use mathlib.Core.Logic.{_↔_, _⊎_, inl, inr, ⊎-elim}
 use mathlib.Core.Bool.{Bool, true, false, cond, true≢false, false≢true}
 use mathlib.Core.List.{List, [], _∷_}

@@ -6,7 +6,7 @@ use native.Mathlib.Omega.{arith}
 use borrow.Author.Tests.{ne-eqb, ltb-true, ltb-false}
 use lib.Dec.{ltb}
 use lib.IntN.{ℤ}
-use Rattle.counter.specs.Events.{takesBit, takesZero, legalFlag, legal}
+use Rattle.counter.specs.Events.{takesBit, takesZero, legalFlag}
 use Rattle.counter.proofs.Ranges.{over}
 
 no-flag : (sub : ℕ) (v : ℤ) → 19 ≤ sub → legalFlag sub v ≡ false

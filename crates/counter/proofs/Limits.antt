@@ -1,5 +1,5 @@
 -- Counting at the limits: one more than a number below another that fits, or one less than a number above it, fits too.
-use mathlib.Core.Path.{_≡_, sym, ap, _∙_}
+use mathlib.Core.Path.{_≡_}
 use mathlib.Core.Bool.{false, true, true≢false}
 use Prim.Native.Nat.{ℕ, zero, suc, _+_, _<_, _^_}
 use native.Mathlib.Omega.{arith}

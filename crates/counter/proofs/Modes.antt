@@ -1,9 +1,9 @@
 -- Laws of the mode's number, by the tests that tell it: below 0 and past 7 there is no mode.
-use mathlib.Core.Path.{_≡_, refl, sym, ap, _∙_}
-use mathlib.Core.Bool.{true, false, cond, false≢true}
-use Prim.Native.Nat.{ℕ, _<_}
+use mathlib.Core.Path.{_≡_, refl, sym, _∙_}
+use mathlib.Core.Bool.{true, false, false≢true}
+use Prim.Native.Nat.{_<_}
 use borrow.Author.Tests.{ltb-true}
-use lib.Dec.{T, ltb, leb·suc-zero}
+use lib.Dec.{T, leb·suc-zero}
 use lib.IntN.{ℤ, pos, negsuc, natAbs}
 use lib.Signed.{ltZ, nonNeg}
 use Rattle.counter.specs.Parts.{modeOf}

@@ -1,10 +1,10 @@
 -- Outputs, a raised cause and an input sample keep a state well formed.
-use mathlib.Core.Path.{_≡_, refl, ap, _∙_}
+use mathlib.Core.Path.{_≡_, refl}
 use mathlib.Core.Bool.{Bool, true, false, cond, _&&_, false≢true}
 use Prim.Native.Nat.{ℕ, _<_, _≤_, _%_, _^_}
 use native.Mathlib.Nat.{mod-lt, lt-of-le-of-lt}
 use borrow.Author.Tests.{eqb-true}
-use lib.Bits.{bitAnd, bitOr, and-le-l, and-le-r, or-lt}
+use lib.Bits.{bitAnd, and-le-l, and-le-r, or-lt}
 use lib.Dec.{eqb, lit<}
 use lib.IntN.{ℤ, pos, _+ℤ_, _-ℤ_}
 use lib.Signed.{leZ}
@@ -18,11 +18,10 @@ use Rattle.counter.specs.declared.state.Counted.{Counted}
 use Rattle.counter.specs.declared.state.Sampled.{Sampled}
 use Rattle.counter.specs.declared.state.Count.{Count}
 use Rattle.counter.specs.declared.state.Count.the-variants.{None, Up, Down}
-use Rattle.counter.specs.Parts.{FE, UIE, lowPreset, highPreset, underflow, overflow, LPM, HPM, UFM, OFM, LOADED, flag, withAcc, withFlags, withLevels, upOnly, mode}
+use Rattle.counter.specs.Parts.{FE, UIE, lowPreset, highPreset, overflow, LOADED, flag, withAcc, withFlags, withLevels, upOnly, mode}
 use Rattle.counter.specs.Interrupts.{outputMask, presetWord, causeWord, masked, enabled, post, withOutputs, raise}
 use Rattle.counter.specs.Sample.{counted, up, down, upOf, downOf, sampledAs, unmoved, countedBy, resets, counting, direction, sampled, sample}
 use Rattle.counter.specs.Events.{from, programWord}
-use Rattle.counter.specs.WellFormed.{SettingsTyped}
 use Rattle.counter.proofs.Limits.{up-fits, down-fits}
 use Rattle.counter.proofs.Flags.{Kept, kept-refl, kept-upFlags, kept-downFlags}
 use Rattle.counter.proofs.Formed.{second}

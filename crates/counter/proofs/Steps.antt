@@ -1,9 +1,9 @@
 -- Each event keeps a well-formed state well formed, and fresh is well formed.
-use mathlib.Core.Path.{_≡_, refl, sym, ap, _∙_}
-use mathlib.Core.Bool.{Bool, true, false, cond, false≢true, _&&_, _||_}
+use mathlib.Core.Path.{_≡_, refl}
+use mathlib.Core.Bool.{Bool, true, false, cond, false≢true}
 use mathlib.Core.List.{[], _∷_}
-use Prim.Native.Nat.{ℕ, _<_, _≤_, _%_, _^_}
-use native.Mathlib.Nat.{mod-lt, le-of-suc-le-suc, lt-trans}
+use Prim.Native.Nat.{ℕ, _<_, _≤_, _^_}
+use native.Mathlib.Nat.{mod-lt, le-of-suc-le-suc}
 use native.Mathlib.Omega.{arith}
 use borrow.Author.Tests.{eqb-true, ne-eqb}
 use lib.Dec.{eqb, lit<, lit≤}
@@ -17,11 +17,10 @@ use Rattle.word.proofs.TwosComplement.{sfits-signed}
 use Rattle.counter.specs.declared.state.Settings.{Settings}
 use Rattle.counter.specs.declared.state.Counter.{Counter}
 use Rattle.counter.specs.Parts.{AS, SP, FE, flag, on, off, withStaged, withFlags, noSettings, freshSettings, fresh}
-use Rattle.counter.specs.Loading.{firstBroken, accepted, rejected, load, presetLoad}
-use Rattle.counter.specs.Interrupts.{quiet, finish}
-use Rattle.counter.specs.Sample.{sample}
-use Rattle.counter.specs.Events.{isZero, takesBit, takesZero, legalFlag, legal, levelsOf, wordOf, shortOf, staged, stagedWrite, device, setTo, deviceWrite, spRises, flagWrite, emptied, autoStart, enterRun, programWord, outputWrite, control, apply, step}
-use Rattle.counter.specs.WellFormed.{SettingsTyped, Typed, Good, wellFormed, causesFormed, queueFormed, errorFormed, activeFormed, isNone}
+use Rattle.counter.specs.Loading.{firstBroken, accepted, rejected, load}
+use Rattle.counter.specs.Interrupts.{quiet}
+use Rattle.counter.specs.Events.{isZero, takesBit, takesZero, legalFlag, legal, levelsOf, wordOf, shortOf, staged, stagedWrite, device, setTo, deviceWrite, spRises, flagWrite, emptied, autoStart, enterRun, programWord, control, apply, step}
+use Rattle.counter.specs.WellFormed.{SettingsTyped, Good, wellFormed, causesFormed, queueFormed, errorFormed, activeFormed, isNone}
 use Rattle.counter.proofs.Flags.{Other, other, kept-set, kept-clear, kept-quiet}
 use Rattle.counter.proofs.Legal.{flag-below}
 use Rattle.counter.proofs.Changes.{Well, good-well, well-good, well-staged, well-acc, well-out, well-flags}

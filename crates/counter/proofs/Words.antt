@@ -1,8 +1,8 @@
 -- Outputs bit by bit: an output that is not in the active mask keeps its level on causes 1 and 2, one that is keeps it on the
 -- program's word, bits 12 to 15 stay 0, and staged settings have no say.
-use mathlib.Core.Path.{_≡_, refl, sym, ap, _∙_}
+use mathlib.Core.Path.{_≡_, refl, ap, _∙_}
 use mathlib.Core.Bool.{Bool, true, false, cond}
-use Prim.Native.Nat.{ℕ, _+_, _%_, _<_, _≤_, _^_}
+use Prim.Native.Nat.{ℕ, _%_, _<_, _≤_, _^_}
 use native.Mathlib.Nat.{lt-trans, mod-lt}
 use native.Mathlib.Omega.{arith}
 use borrow.Author.Tests.{ltb-true, ltb-false}
@@ -18,7 +18,7 @@ use Rattle.counter.specs.declared.state.Count.the-variants.{None, Up, Do
 use Rattle.counter.specs.Parts.{UIL, lowPreset, highPreset, on, withStaged, withAcc, withFlags, withLevels, mode}
 use Rattle.counter.specs.Interrupts.{outputMask, presetWord, causeWord, enabled, starting, waiting, post, withOutputs, raise}
 use Rattle.counter.specs.Sample.{countedBy, direction, sampled, after, sample}
-use Rattle.counter.specs.Events.{wordOf, programWord, outputWrite}
+use Rattle.counter.specs.Events.{programWord, outputWrite}
 use Rattle.counter.proofs.Samples.{causeWord-lt, programWord-lt}
 
 -- ---- the mask among bits 0 to 11

@@ -1,7 +1,6 @@
 -- Document 01, "The counter's parts", last paragraph: the bits shown but not stored, all by active settings.
 use mathlib.Core.Bool.{Bool, not, _&&_}
-use Prim.Native.Nat.{ℕ}
-use lib.Dec.{eqb, ltb}
+use lib.Dec.{eqb}
 use lib.Signed.{leZ}
 use Rattle.counter.specs.declared.state.Counter.{Counter}
 use Rattle.counter.specs.Parts.{flag, CE, LOADED, mode, upOnly}

@@ -1,10 +1,8 @@
 // Text in a lent buffer, appended piece by piece. A place is how much text stands at the buffer's front.
 use replay::bytes;
 use word::sign;
-ghost use mathlib.Core.Path.{_≡_};
-ghost use mathlib.Core.List.{_++_};
 ghost use Prim.Native.Nat.{_+_, _≤_, _<_, _^_};
-ghost use lib.ListN.{length, take};
+ghost use lib.ListN.{length};
 ghost use Rattle.report.specs.Appended.{Appended};
 ghost use Rattle.report.specs.Line.{decimal, signedDecimal, hexadecimal};
 

@@ -1,7 +1,6 @@
 -- A sample over a snapshot's bytes: what the test of the event that was read says of the event's bytes, and where no cause is raised.
 use mathlib.Core.Path.{_≡_, sym, ap, _∙_}
 use mathlib.Core.Bool.{Bool}
-use mathlib.Core.List.{List}
 use Prim.Native.Nat.{ℕ}
 use mir.Syntax.{w32}
 use mir.Val.{SFits}

@@ -20,7 +20,7 @@ use Rattle.snapshot.specs.Widths.{eventSize}
 use Rattle.snapshot.specs.FormedBytes.{formed}
 use Rattle.snapshot.specs.EventBytes.{eventOf, stepEvent}
 use Rattle.snapshot.proofs.RoundTrip.{length-encode, decode-encode, encode-decode, good-decode}
-use Rattle.trace.specs.Counting.{Legal, counting, codec}
+use Rattle.trace.specs.Counting.{counting, codec}
 
 -- the event's bytes are all that it takes; one that is not legal changes nothing
 pub event-good : (c : Counter) (e : List ℕ) → Good c → length e ≡ eventSize → Bytes e → Good (stepEvent e c)

@@ -1,13 +1,13 @@
 -- One turn of each loop over the image, as the code takes it: an event at its byte, a stretch of K events, a snapshot written at its byte.
 use mathlib.Core.Path.{_≡_, sym, ap, _∙_}
 use mathlib.Core.Bool.{Bool, true, false, cond, _&&_}
-use mathlib.Core.List.{List, append-nil}
+use mathlib.Core.List.{List}
 use Prim.Native.Nat.{ℕ, _+_, _-_, _*_, _/_, _≤_, _<_}
-use native.Mathlib.Nat.{zero-add, le-refl, suc-mul}
+use native.Mathlib.Nat.{zero-add, suc-mul}
 use native.Mathlib.Numerals.{add-one}
 use native.Mathlib.Omega.{arith}
 use lib.Dec.{leb}
-use lib.ListN.{length, drop-of-length-le}
+use lib.ListN.{length}
 use Rattle.word.specs.Part.{Bytes, part, put}
 use Rattle.replay.specs.Image.{Shape, snapshots, event, snapshot, withSnapshot, changed, Valid}
 use Rattle.replay.specs.Replay.{run, replayOn, replayed}

@@ -1,13 +1,13 @@
 -- Laws of `part` and `put`: lengths, a part of a list after a write, and two writes in a row. Most go by the element at each index.
-use mathlib.Core.Path.{_≡_, refl, sym, ap, _∙_, subst}
+use mathlib.Core.Path.{_≡_, sym, ap, _∙_}
 use lib.Dec.{lit<}
 use mathlib.Core.List.{List, [], _∷_, _++_, append-assoc, append-nil}
 use Prim.Native.Nat.{ℕ, zero, suc, _+_, _-_, _≤_, _<_}
 use native.Mathlib.Nat.{add-zero, add-assoc, zero-add, suc-add, le-refl, le-trans, le-of-eq, le-add-right}
 use native.Mathlib.Numerals.{add-one}
 use native.Mathlib.Omega.{arith}
-use lib.ListN.{length, take, drop, getD, set, length-append, length-drop, take-append-drop, drop-of-length-le, List·getD-eq-default}
-use lib.Seq.{length-take-le, take-length, take-append-le, take-append-seam, drop-append-le, drop-append-add, drop-at, take-at, take-take, take-nil, drop-drop, getD-take, getD-drop, set-split, take-all}
+use lib.ListN.{length, take, drop, set, length-append, length-drop, take-append-drop, drop-of-length-le}
+use lib.Seq.{length-take-le, take-append-le, take-append-seam, drop-append-add, drop-at, take-at, take-take, take-nil, drop-drop, getD-drop, set-split, take-all}
 use Rattle.word.specs.Part.{Bytes, part, put}
 
 -- ---- length

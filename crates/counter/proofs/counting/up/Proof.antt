@@ -1,6 +1,6 @@
 -- `counter::counting::up` meets its contract: each test is the definition's, in its order, and a count from below OVF fits.
-use mathlib.Core.Path.{_≡_, sym, ap, _∙_}
-use mathlib.Core.Bool.{Bool, true, false}
+use mathlib.Core.Path.{_≡_}
+use mathlib.Core.Bool.{true, false}
 use lib.IntN.{ℤ, pos, _+ℤ_}
 use lib.Signed.{leZ}
 use mir.Syntax.{w32}

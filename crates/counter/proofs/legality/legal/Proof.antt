@@ -1,6 +1,6 @@
 -- `counter::legality::legal` meets its contract: a number among the arms picks the definition's case, and past 5 the range and 9 are left.
 use mathlib.Core.Path.{_≡_, ap, _∙_}
-use mathlib.Core.Bool.{Bool, false, cond, _&&_}
+use mathlib.Core.Bool.{false, cond, _&&_}
 use Prim.Native.Nat.{ℕ, _≤_}
 use lib.IntN.{ℤ}
 use native.Mathlib.Omega.{arith}

@@ -1,8 +1,7 @@
 -- `counter::loading::presets_broken` meets its contract: the rules are asked of the parts that the definition names.
-use mathlib.Core.Path.{ap, _∙_}
+use mathlib.Core.Path.{_∙_}
 use Rattle.word.proofs.TwosComplement.{signed-unsigned}
-use Rattle.counter.specs.Parts.{modeOf}
-use Rattle.counter.specs.Loading.{presetBroken, hslBroken}
+use Rattle.counter.specs.Loading.{hslBroken}
 use Rattle.counter.proofs.Told.{settings-told}
 use borrow.Author.Needs.{needs}
 use Rattle.counter.proofs.loading.presets_broken.Statement.{statement}

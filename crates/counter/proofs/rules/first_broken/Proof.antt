@@ -5,7 +5,7 @@ use mathlib.Core.Path.{_≡_, sym, ap, _∙_}
 use mathlib.Core.Bool.{Bool}
 use Rattle.word.proofs.TwosComplement.{signed-unsigned}
 use Rattle.counter.specs.Parts.{modeOf}
-use Rattle.counter.specs.Loading.{rule1, presetBroken, firstBroken}
+use Rattle.counter.specs.Loading.{rule1, firstBroken}
 use Rattle.counter.specs.WellFormed.{SettingsTyped}
 use Rattle.counter.proofs.Told.{settings-told}
 use Rattle.counter.proofs.rules.first_broken.Statement.{statement}

@@ -1,5 +1,5 @@
 -- `counter::rules::mode_of` meets its contract: the two tests leave the numbers 0 to 7.
-use mathlib.Core.Path.{_≡_, sym, ap, _∙_}
+use mathlib.Core.Path.{sym, ap, _∙_}
 use native.Mathlib.Nat.{lt-trans}
 use lib.Dec.{lit<}
 use lib.IntN.{ℤ}

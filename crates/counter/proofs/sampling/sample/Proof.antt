@@ -1,5 +1,5 @@
 -- `counter::sampling::sample` meets its contract: no cause raises nothing, so the test changes nothing.
-use mathlib.Core.Path.{_≡_, sym, _∙_}
+use mathlib.Core.Path.{sym, _∙_}
 use mir.Syntax.{w32}
 use mir.Val.{SFits}
 use Rattle.word.proofs.TwosComplement.{signed-unsigned}

@@ -4,7 +4,7 @@ use mathlib.Core.Bool.{Bool}
 use Rattle.word.proofs.TwosComplement.{signed-unsigned}
 use Rattle.word.proofs.Branches.{told}
 use Rattle.counter.specs.Parts.{mode, modeOf}
-use Rattle.counter.specs.Sample.{resets, counting, direction, countedBy, sampled}
+use Rattle.counter.specs.Sample.{resets, counting, direction, sampled}
 use Rattle.counter.proofs.Told.{settings-told}
 use borrow.Author.Needs.{needs}
 use Rattle.counter.proofs.sampling.sampled.Statement.{statement}

@@ -1,9 +1,9 @@
 -- `counter::stepping::apply` meets its contract: a sample, or one of the other kinds.
 use borrow.Author.Needs.{needs}
-use mathlib.Core.Path.{_≡_, ap, _∙_}
+use mathlib.Core.Path.{ap, _∙_}
 use borrow.Author.Tests.{ne-eqb, eq-eqb}
 use Rattle.word.proofs.TwosComplement.{signed-unsigned}
-use Rattle.counter.specs.Events.{legal, levelsOf, control, apply}
+use Rattle.counter.specs.Events.{levelsOf, control, apply}
 use Rattle.counter.specs.Sample.{sample}
 use Rattle.counter.proofs.stepping.apply.Statement.{statement}
 use Rattle.counter.proofs.stepping.apply.Tie as tie

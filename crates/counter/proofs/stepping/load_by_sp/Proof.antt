@@ -1,6 +1,6 @@
 -- `counter::stepping::load_by_sp` meets its contract: SP is set, then the load.
 use borrow.Author.Needs.{needs}
-use mathlib.Core.Path.{ap, _∙_}
+use mathlib.Core.Path.{_∙_}
 use Rattle.counter.specs.Loading.{load}
 use Rattle.counter.proofs.stepping.load_by_sp.Statement.{statement}
 use Rattle.counter.proofs.stepping.load_by_sp.Tie as tie

@@ -1,6 +1,5 @@
 -- `counter::stepping::staged_write` meets its contract: the staged settings are those of the definition.
 use borrow.Author.Needs.{needs}
-use mathlib.Core.Path.{ap}
 use Rattle.word.proofs.TwosComplement.{signed-unsigned}
 use Rattle.counter.specs.Events.{staged, stagedWrite}
 use Rattle.counter.proofs.stepping.staged_write.Statement.{statement}

@@ -1,7 +1,5 @@
 -- `report::line::append_counts` meets its contract: four pieces in a row.
-use mathlib.Core.Path.{_≡_, _∙_}
 use native.Mathlib.Omega.{arith}
-use lib.Dec.{lit<, lit≤}
 use Rattle.report.specs.Line.{countsText}
 use Rattle.report.proofs.Digits.{length-decimal}
 use Rattle.report.proofs.Pieces.{appended-twice}

@@ -1,7 +1,6 @@
 -- `report::line::append_error` meets its contract: five pieces in a row.
-use mathlib.Core.Path.{_≡_, _∙_}
 use native.Mathlib.Omega.{arith}
-use lib.Dec.{lit<, lit≤}
+use lib.Dec.{lit≤}
 use Rattle.report.specs.Line.{errorText}
 use Rattle.report.proofs.Digits.{length-decimal, length-digits}
 use Rattle.report.proofs.Pieces.{appended-twice}

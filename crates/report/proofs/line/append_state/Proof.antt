@@ -1,7 +1,6 @@
 -- `report::line::append_state` meets its contract: four pieces in a row.
-use mathlib.Core.Path.{_≡_, _∙_}
 use native.Mathlib.Omega.{arith}
-use lib.Dec.{lit<, lit≤}
+use lib.Dec.{lit≤}
 use Rattle.word.proofs.TwosComplement.{signed-unsigned}
 use Rattle.report.specs.Line.{stateText}
 use Rattle.report.proofs.Digits.{length-digits}

@@ -1,7 +1,5 @@
 -- `report::line::refusal_line` meets its contract: five pieces in a row.
-use mathlib.Core.Path.{_≡_, _∙_}
 use native.Mathlib.Omega.{arith}
-use lib.Dec.{lit<, lit≤}
 use Rattle.report.specs.Line.{refusalLine}
 use Rattle.report.proofs.Digits.{length-decimal}
 use Rattle.report.proofs.Pieces.{appended-twice}

@@ -1,7 +1,6 @@
 -- `report::text::append` meets its contract: the piece is written at the text's end.
 use borrow.Author.Needs.{needs}
 use denote.Ref.{now}
-use Rattle.report.specs.Appended.{Appended}
 use Rattle.report.proofs.Pieces.{put-appended}
 use Rattle.report.proofs.text.append.Statement.{statement}
 use Rattle.report.proofs.text.append.Tie as tie

@@ -1,10 +1,10 @@
 -- `report::text::append_decimal` meets its contract: the fewest digits are the definition's text.
-use mathlib.Core.Path.{_≡_, ap, _∙_, subst}
+use mathlib.Core.Path.{_≡_, _∙_, subst}
 use mathlib.Core.List.{List}
 use native.Mathlib.Omega.{arith}
 use borrow.Author.Needs.{needs}
 use denote.Ref.{now}
-use lib.ListN.{length, take}
+use lib.ListN.{take}
 use Rattle.report.specs.Appended.{Appended}
 use Rattle.report.specs.Line.{decimal}
 use Rattle.report.proofs.Digits.{decimal-fewest, length-decimal}

@@ -1,6 +1,6 @@
 -- `snapshot::in_place::control_over` meets its contract: the snapshot is read whole and written whole.
 use borrow.Author.Needs.{needs}
-use mathlib.Core.Path.{_≡_, ap, ap₂, _∙_}
+use mathlib.Core.Path.{ap, ap₂, _∙_}
 use denote.Ref.{now}
 use Rattle.word.proofs.TwosComplement.{signed-unsigned}
 use Rattle.counter.specs.Events.{stepControl}

@@ -3,10 +3,7 @@ use borrow.Author.Needs.{needs}
 use mathlib.Core.Path.{_≡_, ap, _∙_}
 use lib.IntN.{ℤ}
 use denote.Ref.{now}
-use mir.Syntax.{w32}
-use mir.Val.{SFits}
 use Rattle.word.proofs.TwosComplement.{signed-unsigned}
-use Rattle.counter.specs.declared.state.Sampled.{Sampled}
 use Rattle.counter.specs.Parts.{withAcc, withFlags, withLevels}
 use Rattle.counter.specs.Interrupts.{raise}
 use Rattle.counter.specs.Sample.{sampled}

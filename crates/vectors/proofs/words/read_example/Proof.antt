@@ -1,7 +1,6 @@
 -- `vectors::words::read_example` meets its contract: the layout takes seven bytes, and eight are there from place 1.
 use borrow.Author.Needs.{needs}
 use mathlib.Core.Path.{refl}
-use lib.Dec.{lit≤}
 use Rattle.word.specs.Layouts.{total, narrow}
 use Rattle.vectors.proofs.words.read_example.Statement.{statement}
 use Rattle.vectors.proofs.words.read_example.Tie as tie

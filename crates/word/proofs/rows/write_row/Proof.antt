@@ -1,15 +1,15 @@
 -- `word::rows::write_row` meets its contract. At each turn, writing the numbers that are left gives the goal: the number written and
 -- the rest beside it are one write.
 use mathlib.Core.Path.{_≡_, refl, sym, ap, _∙_}
-use mathlib.Core.List.{List, [], _∷_, _++_}
-use Prim.Native.Nat.{ℕ, suc, _+_, _-_, _≤_, _<_}
+use mathlib.Core.List.{List}
+use Prim.Native.Nat.{ℕ, _+_, _-_, _≤_, _<_}
 use native.Mathlib.Omega.{arith}
 use denote.Ref.{now}
 use lib.ListN.{length, getD, drop, drop-of-length-le}
 use Rattle.word.specs.Part.{put}
 use Rattle.word.specs.LittleEndian.{toBytes}
 use Rattle.word.specs.Layouts.{total, pack}
-use Rattle.word.proofs.Part.{put-put, put-nil, length-put}
+use Rattle.word.proofs.Part.{put-put, put-nil}
 use Rattle.word.proofs.LittleEndian.{length-toBytes}
 use Rattle.word.proofs.Layouts.{total-drop, pack-drop}
 use Rattle.word.proofs.rows.write_row.Statement.{statement}
