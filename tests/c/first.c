@@ -1,4 +1,5 @@
-/* Calls the library as the depot's program does: a fresh snapshot is stepped and read back, and every refusal is met.
+/* Calls the library as the depot's program does: a fresh snapshot is stepped and read back, an image is replayed and mended,
+ * and refusals are met.
  * One line for each check; the first that fails ends the run with status 1.
  *
  *   rt staticlib hsc
@@ -160,9 +161,66 @@ static void refusals(void) {
     check_unread("reading: 9 goes before 6", 9, bad, 69);
 }
 
+enum {
+    EVENTS = 2,
+    SNAPSHOTS = 3,
+    TABLE = HSC_HEADER_SIZE + EVENTS * HSC_EVENT_SIZE,
+    IMAGE = TABLE + SNAPSHOTS * HSC_SNAPSHOT_SIZE
+};
+
+/* ACC := acc, then outputs := 3; K = 1; a table that no replay wrote. */
+static void image_of(uint8_t image[IMAGE], int32_t acc) {
+    const uint32_t header[] = {EVENTS, HSC_HEADER_SIZE, SNAPSHOTS, TABLE, 1, 0};
+    for (size_t i = 0; i < 6; i++) {
+        put(image, 4 * i, 4, header[i]);
+    }
+    event_of(image + HSC_HEADER_SIZE, 5, 0, acc);
+    event_of(image + HSC_HEADER_SIZE + HSC_EVENT_SIZE, 9, 0, 3);
+    memset(image + TABLE, 0x5a, IMAGE - TABLE);
+}
+
+/* The image with a true table, written by steps. */
+static void stepped(uint8_t image[IMAGE], int32_t acc) {
+    uint8_t snapshot[HSC_SNAPSHOT_SIZE];
+    image_of(image, acc);
+    fresh(snapshot);
+    for (size_t j = 0; j < SNAPSHOTS; j++) {
+        memcpy(image + TABLE + j * HSC_SNAPSHOT_SIZE, snapshot, sizeof snapshot);
+        if (j < EVENTS) {
+            hsc_step(snapshot, sizeof snapshot, image + HSC_HEADER_SIZE + j * HSC_EVENT_SIZE, HSC_EVENT_SIZE);
+        }
+    }
+}
+
+static void images(void) {
+    uint8_t image[IMAGE], expected[IMAGE], last[HSC_SNAPSHOT_SIZE], patch[HSC_EVENT_SIZE];
+    uint32_t span[2] = {77, 77};
+    image_of(image, 7);
+    stepped(expected, 7);
+    check("replay is done", hsc_replay(image, IMAGE, last) == 0);
+    check("replay writes the table that steps give", memcmp(image, expected, IMAGE) == 0);
+    check("the final state is the last snapshot's, with K = 1", memcmp(last, image + IMAGE - sizeof last, sizeof last) == 0);
+
+    event_of(patch, 5, 0, 9);
+    stepped(expected, 9);
+    check("mending is done", hsc_mend(image, IMAGE, 0, patch, sizeof patch, span) == 0);
+    check("mending leaves what replay of the changed image leaves", memcmp(image, expected, IMAGE) == 0);
+    check("it compared from snapshot 1 on, and none agreed", span[0] == 1 && span[1] == SNAPSHOTS);
+    check("the same event again is done", hsc_mend(image, IMAGE, 0, patch, sizeof patch, span) == 0);
+    check("and stops at once", span[0] == 1 && span[1] == 1 && memcmp(image, expected, IMAGE) == 0);
+
+    uint64_t status = hsc_mend(image, IMAGE, 2, patch, sizeof patch, span);
+    check("mending past the last event is refused by 7", hsc_number(status) == HSC_REFUSED_PATCH && hsc_place(status) == 0);
+    image[HSC_HEADER_SIZE + HSC_EVENT_SIZE + 2] = expected[HSC_HEADER_SIZE + HSC_EVENT_SIZE + 2] = 1;
+    status = hsc_replay(image, IMAGE, last);
+    check("an illegal event is refused by 5, at its place", hsc_number(status) == HSC_REFUSED_EVENT && hsc_place(status) == 1);
+    check("and the image and the span are as they were", memcmp(image, expected, IMAGE) == 0 && span[0] == 1 && span[1] == 1);
+}
+
 int main(void) {
     events();
     steps();
     refusals();
+    images();
     return 0;
 }
