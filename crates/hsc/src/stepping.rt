@@ -2,9 +2,13 @@
 use crate::answer;
 use crate::answer::Answer;
 use snapshot::EVENT_SIZE;
+use snapshot::MOVING_SIZE;
 use snapshot::SNAPSHOT_SIZE;
+use snapshot::codec::decode;
 use snapshot::event::legal_event;
 use snapshot::form::formed;
+use snapshot::in_place::write_over;
+use snapshot::in_place::write_state;
 use trace::events::advance;
 ghost use mathlib.Core.Path.{_≡_};
 ghost use mathlib.Core.Bool.{true};
@@ -34,7 +38,11 @@ fn step_over(snapshot: &mut [u8], event: &[u8])
     requires { ⌜ length (now event) ≡ eventSize ⌝ }
     ensures { λ _. ⌜ now (snapshot .exit) ≡ encode (stepEvent (now (event .entry)) (decode (now (snapshot .entry)))) ⌝ }
 {
-    advance(event, snapshot, 0, 1);
+    let mut moving = [0u8; MOVING_SIZE];
+    let state = decode(snapshot, 0);
+    write_state(state, snapshot, &mut moving);
+    advance(event, snapshot, &mut moving, 0, 1);
+    write_over(snapshot, 0, &moving);
 }
 
 // Takes the event: the next snapshot stands over the lent one. A refusal leaves it as it was.

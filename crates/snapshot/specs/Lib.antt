@@ -3,3 +3,4 @@ pub mod Widths
 pub mod Snapshots
 pub mod FormedBytes
 pub mod EventBytes
+pub mod Split

@@ -23,6 +23,13 @@ otherLayout = 4 ∷ 2 ∷ 2 ∷ 4 ∷ 1 ∷ 1 ∷ 1 ∷ 1 ∷ []
 abbrev pub snapshotLayout : List ℕ
 snapshotLayout = settingsLayout ++ (settingsLayout ++ otherLayout)
 
+-- ACC, flags, levels: what a sample moves, held beside a snapshot while events are taken
+abbrev pub movingSize : ℕ
+movingSize = 9
+
+abbrev pub movingLayout : List ℕ
+movingLayout = 4 ∷ 4 ∷ 1 ∷ []
+
 -- kind, sub, zero, value, stamp
 abbrev pub eventLayout : List ℕ
 eventLayout = 1 ∷ 1 ∷ 2 ∷ 4 ∷ 4 ∷ []

@@ -10,3 +10,6 @@ pub const SNAPSHOT_SIZE: usize = 68;
 
 // The bytes of an event.
 pub const EVENT_SIZE: usize = 12;
+
+// The bytes of ACC, flags and levels beside a snapshot.
+pub const MOVING_SIZE: usize = 9;

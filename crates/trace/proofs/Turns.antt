@@ -8,7 +8,7 @@ use native.Mathlib.Numerals.{add-one}
 use native.Mathlib.Omega.{arith}
 use lib.Dec.{leb}
 use lib.ListN.{length}
-use Rattle.word.specs.Part.{Bytes, part, put}
+use Rattle.word.specs.Part.{part, put}
 use Rattle.replay.specs.Image.{Shape, snapshots, event, snapshot, withSnapshot, changed, Valid}
 use Rattle.replay.specs.Replay.{run, replayOn, replayed}
 use Rattle.replay.specs.Mend.{sameBytes, settled, outcome, mendOn, mend}
@@ -18,13 +18,11 @@ use Rattle.replay.proofs.Loops.{replay-start, replayOn-next, mendOn-stop, mendO
 use Rattle.replay.proofs.Theorem.{replay-replayed}
 use Rattle.counter.specs.declared.state.Counter.{Counter}
 use Rattle.counter.specs.WellFormed.{Good}
-use Rattle.snapshot.specs.Widths.{snapshotSize, eventSize}
-use Rattle.snapshot.specs.FormedBytes.{formed}
 use Rattle.snapshot.specs.EventBytes.{stepEvent}
 use Rattle.snapshot.specs.Snapshots.{encode, decode}
-use Rattle.snapshot.proofs.RoundTrip.{length-encode, decode-encode, encode-decode, good-decode, formed-encode}
+use Rattle.snapshot.proofs.RoundTrip.{length-encode}
 use Rattle.trace.specs.Counting.{counting, codec, shape, stretch}
-use Rattle.trace.proofs.Machine.{event-good, counter-laws}
+use Rattle.trace.proofs.Machine.{counter-laws}
 
 -- ---- events
 
@@ -35,23 +33,6 @@ unfolding event
 run-next c bytes at i =
     run-suc counting (stretch at) c bytes 0 i
     ∙ ap (λ (k : ℕ). stepEvent (part bytes (at + k * 12) 12) (run counting (stretch at) c bytes 0 i)) (zero-add i)
-
--- ---- a state in its snapshot
-
--- a well-formed snapshot after one event
-module _ (b e t : List ℕ) (bytes : Bytes b) (long : length b ≡ snapshotSize) (f : formed b ≡ true) (whole : length e ≡ eventSize) (known : Bytes e)
-    (left : t ≡ encode (stepEvent e (decode b))) where
-  next-good : Good (stepEvent e (decode b))
-  next-good = event-good (decode b) e (good-decode b bytes long f) whole known
-
-  pub next-state : decode t ≡ stepEvent e (decode b)
-  next-state = ap decode left ∙ decode-encode (stepEvent e (decode b)) next-good
-
-  pub next-formed : formed t ≡ true
-  next-formed = ap formed left ∙ formed-encode (stepEvent e (decode b)) next-good
-
-  pub next-long : length t ≡ snapshotSize
-  next-long = ap length left ∙ length-encode (stepEvent e (decode b))
 
 -- ---- a stretch of K events and a snapshot
 
@@ -72,31 +53,21 @@ module _ (count spacing : ℕ) where
       → run counting (stretch (24 + i * 12)) s image 0 n ≡ run counting (shape count spacing) s image i n
   run-at s image i n = run-moved counting (stretch (24 + i * 12)) (shape count spacing) s image 0 i n (omega arith)
 
-  -- K events go over a snapshot
-  module _ (image : List ℕ) (j : ℕ) (s : Counter) (b : List ℕ) (bytes : Bytes b) (long : length b ≡ snapshotSize) (h : j < last)
-      (r : decode b ≡ run counting (stretch (24 + j * spacing * 12)) s image 0 spacing) where
-    abbrev next : Counter
-    next = decode b
-
+  module _ (image : List ℕ) (j : ℕ) (s next : Counter) (h : j < last)
+      (r : next ≡ run counting (stretch (24 + j * spacing * 12)) s image 0 spacing) where
     on : next ≡ run counting (shape count spacing) s image (j * spacing) spacing
     on = r ∙ run-at s image (j * spacing) spacing
 
-    same : b ≡ encode next
-    same = sym (encode-decode b bytes long)
-
-    -- it is written as the snapshot that follows
-    module _ (after : List ℕ) (left : after ≡ put image (place (j + 1)) b) where
-      written : after ≡ put image (place (j + 1)) (encode next)
-      written = left ∙ ap (put image (place (j + 1))) same
-
-      pub replay-turn : replayOn counting codec (shape count spacing) (last - (j + 1)) (j + 1) (decode b) after
+    -- the snapshot that follows is written
+    module _ (after : List ℕ) (left : after ≡ put image (place (j + 1)) (encode next)) where
+      pub replay-turn : replayOn counting codec (shape count spacing) (last - (j + 1)) (j + 1) next after
           ≡ replayOn counting codec (shape count spacing) (last - j) j s image
       unfolding withSnapshot
-      replay-turn = rw written (sym (replayOn-next counting codec (shape count spacing) j s next image h on))
+      replay-turn = rw left (sym (replayOn-next counting codec (shape count spacing) j s next image h on))
 
       -- the events that are left give the same state
       pub state-turn : Long image
-          → run counting (shape count spacing) (decode b) after ((j + 1) * spacing) (count - (j + 1) * spacing)
+          → run counting (shape count spacing) next after ((j + 1) * spacing) (count - (j + 1) * spacing)
           ≡ run counting (shape count spacing) s image (j * spacing) (count - j * spacing)
       unfolding withSnapshot
       state-turn w =
@@ -106,31 +77,28 @@ module _ (count spacing : ℕ) where
           let fits : j * spacing + spacing ≤ count = spacing-within g h in
           let split : count - j * spacing ≡ spacing + rest = omega arith in
           let inside : j + 1 < snapshots g = omega arith in
-          ap (λ (l : List ℕ). run counting g next l ((j + 1) * spacing) rest) written
+          ap (λ (l : List ℕ). run counting g next l ((j + 1) * spacing) rest) left
           ∙ run-withSnapshot counting codec g image w (j + 1) inside (encode next) (length-encode next) next ((j + 1) * spacing) rest (omega arith)
           ∙ (λ i. run counting g (on i) image (more i) rest)
           ∙ sym (run-add counting g s image (j * spacing) spacing rest)
           ∙ ap (run counting g s image (j * spacing)) (sym split)
 
-    -- it was compared with the snapshot that follows, and is written where that did not settle
-    module _ (end : ℕ) (t : Bool) (after : List ℕ) (told : t ≡ (leb end ((j + 1) * spacing) && sameBytes (part image (place (j + 1)) 68) b))
-        (left : after ≡ cond t image (put image (place (j + 1)) b)) where
-      compared : t ≡ (leb end ((j + 1) * spacing) && sameBytes (part image (place (j + 1)) 68) (encode next))
-      compared = told ∙ ap (λ (l : List ℕ). leb end ((j + 1) * spacing) && sameBytes (part image (place (j + 1)) 68) l) same
-
+    -- the snapshot that follows was compared, and is written where it did not settle
+    module _ (end : ℕ) (t : Bool) (after : List ℕ) (told : t ≡ (leb end ((j + 1) * spacing) && sameBytes (part image (place (j + 1)) 68) (encode next)))
+        (left : after ≡ cond t image (put image (place (j + 1)) (encode next))) where
       pub mend-stop : t ≡ true → outcome after (j + 1) ≡ mendOn counting codec (shape count spacing) end (last - j) j s image
       unfolding settled snapshot
       mend-stop e =
           let kept : after ≡ image = rw e at left in
-          rw kept (sym (mendOn-stop counting codec (shape count spacing) j s next image h on end (sym compared ∙ e)))
+          rw kept (sym (mendOn-stop counting codec (shape count spacing) j s next image h on end (sym told ∙ e)))
 
       pub mend-turn : t ≡ false
-          → mendOn counting codec (shape count spacing) end (last - (j + 1)) (j + 1) (decode b) after
+          → mendOn counting codec (shape count spacing) end (last - (j + 1)) (j + 1) next after
           ≡ mendOn counting codec (shape count spacing) end (last - j) j s image
       unfolding settled snapshot withSnapshot
       mend-turn e =
-          let stored : after ≡ put image (place (j + 1)) (encode next) = (rw e at left) ∙ ap (put image (place (j + 1))) same in
-          rw stored (sym (mendOn-next counting codec (shape count spacing) j s next image h on end (sym compared ∙ e)))
+          let written : after ≡ put image (place (j + 1)) (encode next) = rw e at left in
+          rw written (sym (mendOn-next counting codec (shape count spacing) j s next image h on end (sym told ∙ e)))
 
 -- ---- the whole of a replay
 

@@ -1,15 +1,14 @@
-// A row of events in a lent slice: the first that is illegal, and the state after all of them, which stands in its snapshot.
+// A row of events in a lent slice: the first that is illegal, and the state after all of them, which stands in lent bytes.
 use snapshot::EVENT_SIZE;
 use snapshot::event;
 use snapshot::in_place;
 ghost use mathlib.Core.Path.{_≡_};
-ghost use mathlib.Core.Bool.{true};
 ghost use Prim.Native.Nat.{_+_, _*_, _≤_};
 ghost use lib.ListN.{length};
 ghost use Rattle.replay.specs.Replay.{run};
-ghost use Rattle.snapshot.specs.Widths.{eventSize, snapshotSize};
-ghost use Rattle.snapshot.specs.Snapshots.{decode};
-ghost use Rattle.snapshot.specs.FormedBytes.{formed};
+ghost use Rattle.counter.specs.WellFormed.{Good};
+ghost use Rattle.snapshot.specs.Widths.{eventSize, snapshotSize, movingSize};
+ghost use Rattle.snapshot.specs.Split.{splitState};
 ghost use Rattle.trace.specs.Counting.{counting, stretch};
 ghost use Rattle.trace.specs.Verdicts.{firstIllegal};
 
@@ -28,16 +27,17 @@ pub fn first_illegal(s: &[u8], at: usize, count: usize) -> usize
     i
 }
 
-// Takes the count events from byte at on over a state's snapshot.
-pub fn advance(s: &[u8], state: &mut [u8], at: usize, count: usize)
+// Takes the count events from byte at on over a state.
+pub fn advance(s: &[u8], state: &mut [u8], moving: &mut [u8], at: usize, count: usize)
     requires { ⌜ at + count * eventSize ≤ length (now s) ⌝ }
-    requires { ⌜ (length (now state) ≡ snapshotSize) × (formed (now state) ≡ true) ⌝ }
-    ensures state { λ _. ⌜ decode (now (state .exit)) ≡ run counting (stretch at) (decode (now (state .entry))) (now (s .entry)) 0 count ⌝ }
-    ensures formed { λ _. ⌜ formed (now (state .exit)) ≡ true ⌝ }
+    requires { ⌜ (length (now state) ≡ snapshotSize) × (length (now moving) ≡ movingSize) × Good (splitState (now state) (now moving)) ⌝ }
+    ensures state { λ _. ⌜ splitState (now (state .exit)) (now (moving .exit))
+        ≡ run counting (stretch at) (splitState (now (state .entry)) (now (moving .entry))) (now (s .entry)) 0 count ⌝ }
+    ensures good { λ _. ⌜ Good (splitState (now (state .exit)) (now (moving .exit))) ⌝ }
 {
     let mut i = 0;
     while i < count {
-        in_place::step_over(state, s, at + i * EVENT_SIZE);
+        in_place::step_over(state, moving, s, at + i * EVENT_SIZE);
         i += 1;
     }
 }

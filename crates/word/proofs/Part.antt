@@ -1,5 +1,5 @@
 -- Laws of `part` and `put`: lengths, a part of a list after a write, and two writes in a row. Most go by the element at each index.
-use mathlib.Core.Path.{_≡_, sym, ap, _∙_}
+use mathlib.Core.Path.{_≡_, refl, sym, ap, _∙_}
 use lib.Dec.{lit<}
 use mathlib.Core.List.{List, [], _∷_, _++_, append-assoc, append-nil}
 use Prim.Native.Nat.{ℕ, zero, suc, _+_, _-_, _≤_, _<_}
@@ -7,7 +7,7 @@ use native.Mathlib.Nat.{add-zero, add-assoc, zero-add, suc-add, le-refl, le-tran
 use native.Mathlib.Numerals.{add-one}
 use native.Mathlib.Omega.{arith}
 use lib.ListN.{length, take, drop, set, length-append, length-drop, take-append-drop, drop-of-length-le}
-use lib.Seq.{length-take-le, take-append-le, take-append-seam, drop-append-add, drop-at, take-at, take-take, take-nil, drop-drop, getD-drop, set-split, take-all}
+use lib.Seq.{length-take-le, take-append-le, take-append-seam, drop-append-le, drop-append-add, drop-at, take-at, take-take, take-nil, drop-drop, getD-drop, set-split, take-all}
 use Rattle.word.specs.Part.{Bytes, part, put}
 
 -- ---- length
@@ -128,6 +128,45 @@ pub put-append : (a r : List ℕ) (t : ℕ) (bs : List ℕ) → put (a ++ r) (le
 unfolding put
 put-append [] r t bs = rw zero-add
 put-append (x ∷ xs) r t bs = rw (suc-add (length xs) t, suc-add (length xs + t) (length bs)) (ap (λ (l : List ℕ). x ∷ l) (put-append xs r t bs))
+
+-- what `put` is, for terms in which it stands folded
+put-is : (l : List ℕ) (at : ℕ) (b : List ℕ) → put l at b ≡ take at l ++ (b ++ drop (at + length b) l)
+unfolding put
+put-is l at b = refl
+
+-- a write inside a list's front is a write to that front
+pub put-left : (b r : List ℕ) (k : ℕ) (c : List ℕ) → k + length c ≤ length b → put (b ++ r) k c ≡ put b k c ++ r
+unfolding put
+put-left b r k c h =
+    let first : take k (b ++ r) ≡ take k b = take-append-le k b r (omega arith) in
+    let rest : drop (k + length c) (b ++ r) ≡ drop (k + length c) b ++ r = drop-append-le (k + length c) b r h in
+    (λ i. first i ++ (c ++ rest i))
+    ∙ ap (λ (l : List ℕ). take k b ++ l) (sym (append-assoc c (drop (k + length c) b) r))
+    ∙ sym (append-assoc (take k b) (c ++ drop (k + length c) b) r)
+
+past-front : (l : List ℕ) (at : ℕ) (b : List ℕ) (k : ℕ) (c : List ℕ)
+    → put (put l at b) (length (take at l) + k) c ≡ take at l ++ put (b ++ drop (at + length b) l) k c
+past-front l at b k c = ap (λ (m : List ℕ). put m (length (take at l) + k) c) (put-is l at b) ∙ put-append (take at l) (b ++ drop (at + length b) l) k c
+
+-- a write inside bytes that were written is a write to those bytes
+pub put-inside : (l : List ℕ) (at : ℕ) (b : List ℕ) (k : ℕ) (c : List ℕ) → at ≤ length l → k + length c ≤ length b
+    → put (put l at b) (at + k) c ≡ put l at (put b k c)
+put-inside l at b k c h inside =
+    let front : length (take at l) ≡ at = length-take-le at l h in
+    let tail : List ℕ = drop (at + length b) l in
+    let same : length (put b k c) ≡ length b = length-put b k c inside in
+    ap (λ (n : ℕ). put (put l at b) (n + k) c) (sym front)
+    ∙ past-front l at b k c
+    ∙ ap (λ (r : List ℕ). take at l ++ r) (put-left b tail k c inside)
+    ∙ ap (λ (n : ℕ). take at l ++ (put b k c ++ drop (at + n) l)) (sym same)
+    ∙ sym (put-is l at (put b k c))
+
+-- bytes written over bytes that were written, as many
+pub put-again : (l : List ℕ) (at : ℕ) (b c : List ℕ) → at ≤ length l → length b ≡ length c → put (put l at b) at c ≡ put l at c
+put-again l at b c h e =
+    ap (λ (n : ℕ). put (put l at b) n c) (sym (add-zero at))
+    ∙ put-inside l at b 0 c h (omega (arith, e))
+    ∙ ap (put l at) (put-whole b c e)
 
 -- no bytes written: nothing changes
 pub put-nil : (l : List ℕ) (at : ℕ) → put l at [] ≡ l

@@ -4,31 +4,36 @@ use mathlib.Core.Path.{_≡_, ap, _∙_}
 use lib.IntN.{ℤ}
 use denote.Ref.{now}
 use Rattle.word.proofs.TwosComplement.{signed-unsigned}
+use Rattle.counter.specs.declared.state.Counter.{Counter}
 use Rattle.counter.specs.Parts.{withAcc, withFlags, withLevels}
 use Rattle.counter.specs.Interrupts.{raise}
 use Rattle.counter.specs.Sample.{sampled}
 use Rattle.counter.proofs.Told.{sampled-told}
-use Rattle.snapshot.specs.Snapshots.{encode, decode}
-use Rattle.snapshot.proofs.InPlace.{read-whole}
+use Rattle.snapshot.specs.Snapshots.{decode}
+use Rattle.snapshot.specs.Split.{movingBytes, splitState}
+use Rattle.snapshot.proofs.InPlace.{holds-as, split-moving}
 use Rattle.snapshot.proofs.Sampled.{sample-quiet, sample-raised}
 use Rattle.snapshot.proofs.in_place.sample_over.Statement.{statement}
 use Rattle.snapshot.proofs.in_place.sample_over.Tie as tie
 
 abbrev entry : tie.After-sampled → tie.Start
-entry c = c .before .before .before .before
+entry c = c .before .before .before .before .before .before
 
--- what was made of the snapshot
-made-of : (c : tie.After-sampled) → c .sampled .result ≡ sampled (entry c .args .new) (decode (now (entry c .args .s)))
-made-of c = c .sampled .ensures ∙ ap (sampled (entry c .args .new)) (read-whole (now (entry c .args .s)) (entry c .pre) (c .before .decode .ensures))
+abbrev held : tie.After-sampled → Counter
+held c = splitState (now (entry c .args .s)) (now (entry c .args .moving))
 
-decode-requires : tie.Need-decode-requires
-decode-requires c κs = search needs
+-- what was made of the state
+made-of : (c : tie.After-sampled) → c .sampled .result ≡ sampled (entry c .args .new) (held c)
+made-of c = c .sampled .ensures ∙ ap (sampled (entry c .args .new)) (c .before .read-state .ensures)
+
+read-state-requires : tie.Need-read-state-requires
+read-state-requires c κs = search needs
 
 sampled-requires : tie.Need-sampled-requires
 sampled-requires c κs = search needs
 
-write-sampled-requires : tie.Need-write-sampled-requires
-write-sampled-requires c κs = search needs
+write-moving-requires : tie.Need-write-moving-requires
+write-moving-requires c κs = search needs
 
 raise-over-requires : tie.Need-raise-over-requires
 raise-over-requires c κs = search needs
@@ -36,7 +41,11 @@ raise-over-requires c κs = search needs
 same-length : tie.Need-same-length
 same-length c = search needs
 
+same-length-2 : tie.Need-same-length-2
+same-length-2 c = search needs
+
 returns : tie.Need-returns
+unfolding splitState
 returns c =
     let wrote = c .before .before in
     let told = wrote .before in
@@ -44,37 +53,45 @@ returns c =
     let made = test .before .before in
     let start = entry made in
     let r = made .sampled .result in
-    let d = decode (now (start .args .s)) in
+    let new = start .args .new in
     let fits = sampled-told r _ (told .struct-told .given) in
-    wrote .write-sampled .ensures
-    ∙ ap (λ (v : ℤ). encode (withFlags (r .flags) (withAcc v (withLevels (start .args .new) d)))) (signed-unsigned fits)
-    ∙ ap encode (sample-quiet (start .args .new) d r (made-of made) (test .if1 .taken))
+    let moving = wrote .write-moving .ensures ∙ ap (λ (v : ℤ). movingBytes v (r .flags) new) (signed-unsigned fits) in
+    λ good. ap (splitState (now (start .args .s))) moving
+    ∙ split-moving (r .acc) (r .flags) new fits (told .struct-told .given .1 .0 .1) (start .fits .new .fits) (now (start .args .s))
+    ∙ sample-quiet new (held made) r (made-of made) (test .if1 .taken)
 
-same-length-2 : tie.Need-same-length-2
-same-length-2 c = search needs
+same-length-3 : tie.Need-same-length-3
+same-length-3 c = search needs
+
+same-length-4 : tie.Need-same-length-4
+same-length-4 c = search needs
 
 returns-2 : tie.Need-returns-2
+unfolding splitState
 returns-2 c =
-    let wrote = c .before .before in
-    let told = wrote .before in
-    let made = told .before .before .before .before in
+    let done = c .before .before .before .before in
+    let told = done .before in
+    let made = told .before .before .before .before .before in
     let start = entry made in
     let r = made .sampled .result in
-    let d = decode (now (start .args .s)) in
+    let new = start .args .new in
     let fits = sampled-told r _ (told .struct-told2 .given) in
-    wrote .raise-over .ensures
-    ∙ ap (λ (v : ℤ). encode (raise (r .cause) (withFlags (r .flags) (withAcc v (withLevels (start .args .new) d))))) (signed-unsigned fits)
-    ∙ ap encode (sample-raised (start .args .new) d r (made-of made))
+    let next =
+    ap (λ (v : ℤ). raise (r .cause) (withFlags (r .flags) (withAcc v (withLevels new (decode (now (start .args .s))))))) (signed-unsigned fits)
+    ∙ sample-raised new (held made) r (made-of made) in
+    holds-as (done .raise-over .last .0) (done .raise-over .last .1 .0) next (done .raise-over .ensures)
 
 pub sample-over-spec : {M : Type 1} → statement M
 sample-over-spec =
     tie.close
     (tie.spec
-    decode-requires
+    read-state-requires
     sampled-requires
-    write-sampled-requires
+    write-moving-requires
     raise-over-requires
     same-length
-    returns
     same-length-2
+    returns
+    same-length-3
+    same-length-4
     returns-2)
