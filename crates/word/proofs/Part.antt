@@ -57,10 +57,10 @@ drop-take zero m l = rw zero-add
 drop-take (suc k) m [] = rw (suc-add, take-nil m)
 drop-take (suc k) m (x ∷ xs) = rw suc-add (drop-take k m xs)
 
-part-of-take : (l : List ℕ) (at k n : ℕ) → k + n ≤ at → part l k n ≡ part (take at l) k n
+pub part-take : (l : List ℕ) (at k n : ℕ) → k + n ≤ at → part (take at l) k n ≡ part l k n
 unfolding part
-part-of-take l at k n h =
-    sym (drop-take k n l) ∙ ap (drop k) (sym (take-take (k + n) at l h)) ∙ drop-take k n (take at l)
+part-take l at k n h =
+    sym (drop-take k n (take at l)) ∙ ap (drop k) (take-take (k + n) at l h) ∙ drop-take k n l
 
 -- the front and the rest of a part
 pub take-part : (l : List ℕ) (at k m : ℕ) → take k (part l at (k + m)) ≡ part l at k
@@ -74,9 +74,9 @@ drop-part l at k m = drop-take k m (drop at l) ∙ ap (take m) (drop-drop k at l
 -- at a place before it
 pub part-put-before : (l : List ℕ) (at : ℕ) (bs : List ℕ) (k n : ℕ) → k + n ≤ at → at ≤ length l → part (put l at bs) k n ≡ part l k n
 part-put-before l at bs k n h b =
-    part-of-take (put l at bs) at k n h
+    sym (part-take (put l at bs) at k n h)
     ∙ ap (λ (m : List ℕ). part m k n) (take-put l at bs at (le-refl at) b)
-    ∙ sym (part-of-take l at k n h)
+    ∙ part-take l at k n h
 
 -- at a place past it
 pub part-put-past : (l : List ℕ) (at : ℕ) (bs : List ℕ) (k n : ℕ) → at + length bs ≤ k → at ≤ length l → part (put l at bs) k n ≡ part l k n
