@@ -2,6 +2,7 @@
 pub mod Lists
 pub mod Image
 pub mod Changed
+pub mod Start
 pub mod Run
 pub mod Replay
 pub mod Rest
@@ -11,3 +12,5 @@ pub mod Built
 pub mod Mending
 pub mod Claim
 pub mod Theorem
+pub mod Scan
+pub mod Turns

@@ -1,6 +1,7 @@
--- The theory of a snapshot table over a row of events, for any machine. Read in this order.
-pub mod Machine
+-- The theory of a snapshot table over a row of events, for any system. Read in this order.
+pub mod System
 pub mod Image
+pub mod Events
 pub mod Replay
 pub mod Mend
 pub mod Claim
