@@ -1,17 +1,14 @@
 -- Laws of answers: a refusal is no other answer, a chain of tests that gives an answer had no test that refused, and a check that was
 -- passed leaves what comes after it.
 use mathlib.Core.Path.{_≡_, refl, sym, ap, _∙_}
-use mathlib.Core.Bool.{Bool, true, false, cond, _||_, false≢true}
+use mathlib.Core.Bool.{Bool, true, false, cond, not, _||_, false≢true}
 use mathlib.Core.List.{List}
 use Prim.Native.Nat.{ℕ}
 use native.Mathlib.Omega.{arith}
-use Rattle.counter.specs.declared.state.Counter.{Counter}
 use Rattle.trace.specs.declared.refusal.Refusal.{Refusal}
 use Rattle.trace.specs.declared.refusal.Verdict.{Verdict}
 use Rattle.trace.specs.declared.refusal.Verdict.the-variants.{Refused, Accepted}
-use Rattle.trace.specs.declared.replaying.Replayed.{Replayed}
 use Rattle.trace.specs.Refusals.{Answer, refused, given, refusal, verdictOf, _andThen_, changedIf}
-use Rattle.trace.specs.Replays.{replayOf}
 
 -- ---- tests in a row
 
@@ -25,6 +22,17 @@ passed false n p rest e = (refl, e)
 pub pass : {A : Type 0} (t : Bool) (n p : ℕ) (rest : Answer A) {x : Answer A} → t ≡ false → rest ≡ x → cond t (refused n p) rest ≡ x
 pass t n p rest e h = rw e h
 
+-- a test as code has it and as the definition has it: where it is passed, and where it refuses
+module _ {a b : Bool} (n p : ℕ) (same : a ≡ b) where
+  abbrev tested : Bool → Answer Unit
+  tested t = cond (not t) (refused n p) (given tt)
+
+  pub test-passes : a ≡ true → tested true ≡ tested b
+  test-passes t = ap tested (sym t ∙ same)
+
+  pub test-refuses : a ≡ false → tested false ≡ tested b
+  test-refuses t = ap tested (sym t ∙ same)
+
 pub none-of : (a b : Bool) → a || b ≡ false → (a ≡ false) × (b ≡ false)
 none-of true b e = absurd (false≢true (sym e))
 none-of false b e = (refl, e)
@@ -35,46 +43,32 @@ pub both-passed : {A : Type 0} {x : A} (a : Answer Unit) (b : Answer A) → (a a
 both-passed (refused n p) b e = absurd (refused-given e)
 both-passed (given tt) b e = (refl, e)
 
+pub then-assoc : {A : Type 0} (a b : Answer Unit) (x : Answer A) → ((a andThen b) andThen x) ≡ (a andThen b andThen x)
+then-assoc (refused n p) b x = refl
+then-assoc (given tt) b x = refl
+
 -- ---- a verdict that the code gave
 
-module _ (v : Verdict) (a : Answer Unit) (told : verdictOf v ≡ a) where
+module _ (v : Verdict) (a : Answer Unit) (answered : verdictOf v ≡ a) where
   module _ (r : Refusal) (e : v ≡ Refused r) where
-    pub refused-told : a ≡ refusal r
-    refused-told = sym told ∙ ap verdictOf e
+    pub refused-answer : a ≡ refusal r
+    refused-answer = sym answered ∙ ap verdictOf e
 
     pub refused-first : (x : Answer Unit) → verdictOf v ≡ (a andThen x)
-    refused-first x = ap verdictOf e ∙ sym (ap (λ (t : Answer Unit). t andThen x) refused-told)
+    refused-first x = ap verdictOf e ∙ sym (ap (λ (t : Answer Unit). t andThen x) refused-answer)
 
     pub refused-then : {A : Type 0} (x : Answer A) → refusal r ≡ (a andThen x)
-    refused-then x = sym (ap (λ (t : Answer Unit). t andThen x) refused-told)
+    refused-then x = sym (ap (λ (t : Answer Unit). t andThen x) refused-answer)
 
-    pub refused-answer : {A : Type 0} (x y : Answer A) → (verdictOf v andThen x) ≡ (a andThen y)
-    refused-answer x y = ap (λ (t : Answer Unit). t andThen x) (ap verdictOf e) ∙ refused-then y
-
-    pub refused-kept : (old new : List ℕ) → old ≡ changedIf a old new
-    refused-kept old new = sym (ap (λ (t : Answer Unit). changedIf t old new) refused-told)
+    pub refused-kept : {A : Type 0} (old new : List A) → old ≡ changedIf a old new
+    refused-kept {A} old new = sym (ap (λ (t : Answer Unit). changedIf t old new) refused-answer)
 
   module _ (e : v ≡ Accepted) where
-    pub accepted-told : a ≡ given tt
-    accepted-told = sym told ∙ ap verdictOf e
+    pub accepted-answer : a ≡ given tt
+    accepted-answer = sym answered ∙ ap verdictOf e
 
     pub accepted-then : {A : Type 0} {x y : Answer A} → y ≡ x → y ≡ (a andThen x)
-    accepted-then {A} {x} h = h ∙ sym (ap (λ (t : Answer Unit). t andThen x) accepted-told)
+    accepted-then {A} {x} h = h ∙ sym (ap (λ (t : Answer Unit). t andThen x) accepted-answer)
 
-    pub accepted-answer : {A : Type 0} {x y : A} → x ≡ y → (verdictOf v andThen given x) ≡ (a andThen given y)
-    accepted-answer {A} {x} {y} h = ap (λ (t : Answer Unit). t andThen given x) told ∙ ap (λ (z : A). a andThen given z) h
-
-    pub accepted-changed : (old : List ℕ) {new after : List ℕ} → after ≡ new → after ≡ changedIf a old new
-    accepted-changed old {new} h = h ∙ sym (ap (λ (t : Answer Unit). changedIf t old new) accepted-told)
-
--- ---- what a match on replay's verdict told of its answer
-
-module _ (r : Replayed) {a : Answer Counter} (told : replayOf r ≡ a) where
-  with-last : {v : Verdict} → r .verdict ≡ v → (verdictOf v andThen given (r .last)) ≡ a
-  with-last e = sym (ap (λ (v : Verdict). verdictOf v andThen given (r .last)) e) ∙ told
-
-  pub replay-refused : (f : Refusal) → r .verdict ≡ Refused f → refusal f ≡ a
-  replay-refused f e = with-last e
-
-  pub replay-given : r .verdict ≡ Accepted → given (r .last) ≡ a
-  replay-given e = with-last e
+    pub accepted-changed : {A : Type 0} (old : List A) {new after : List A} → after ≡ new → after ≡ changedIf a old new
+    accepted-changed {A} old {new} h = h ∙ sym (ap (λ (t : Answer Unit). changedIf t old new) accepted-answer)

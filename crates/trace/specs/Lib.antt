@@ -1,6 +1,7 @@
--- Document 01's trace image: the counter as a machine over it, refusals, replay, mending, and demand 3. Read in this order.
-pub mod Counting
+-- Document 01's trace image: its editions as systems, refusals, the header, replay, mending, and demand 3. Read in this order.
+pub mod Editions
 pub mod Refusals
+pub mod Header
 pub mod Verdicts
 pub mod Replays
 pub mod Mends

@@ -1,25 +1,24 @@
 // A row of events in a lent slice: the first that is illegal, and the state after all of them, which stands in lent bytes.
+use crate::edition::Edition;
+use crate::edition::legal;
+use crate::edition::step;
 use snapshot::EVENT_SIZE;
-use snapshot::event;
-use snapshot::in_place;
 ghost use mathlib.Core.Path.{_≡_};
 ghost use Prim.Native.Nat.{_+_, _*_, _≤_};
 ghost use lib.ListN.{length};
-ghost use Rattle.replay.specs.Replay.{run};
-ghost use Rattle.counter.specs.WellFormed.{Good};
-ghost use Rattle.snapshot.specs.Widths.{eventSize, snapshotSize, movingSize};
-ghost use Rattle.snapshot.specs.Split.{splitState};
-ghost use Rattle.trace.specs.Counting.{counting, stretch};
-ghost use Rattle.trace.specs.Verdicts.{firstIllegal};
+ghost use Rattle.replay.specs.System.{Held};
+ghost use Rattle.replay.specs.Events.{firstIllegal, run};
+ghost use Rattle.snapshot.specs.Widths.{eventSize};
+ghost use Rattle.trace.specs.Editions.{system};
 
 // The first illegal event of the count events from byte at on, or count.
-pub fn first_illegal(s: &[u8], at: usize, count: usize) -> usize
-    requires { ⌜ at + count * eventSize ≤ length (now s) ⌝ }
-    ensures { λ r. ⌜ r ≡ firstIllegal (now (s .entry)) at 0 count ⌝ }
+pub fn first_illegal(ed: Edition, events: &[u8], at: usize, count: usize) -> usize
+    requires { ⌜ at + count * eventSize ≤ length (now events) ⌝ }
+    ensures { λ r. ⌜ r ≡ firstIllegal (system ed) (now (events .entry)) at 0 count ⌝ }
 {
     let mut i = 0;
     while i < count {
-        if !event::legal_event(s, at + i * EVENT_SIZE) {
+        if !legal(ed, events, at + i * EVENT_SIZE) {
             return i;
         }
         i += 1;
@@ -27,17 +26,23 @@ pub fn first_illegal(s: &[u8], at: usize, count: usize) -> usize
     i
 }
 
-// Takes the count events from byte at on over a state.
-pub fn advance(s: &[u8], state: &mut [u8], moving: &mut [u8], at: usize, count: usize)
-    requires { ⌜ at + count * eventSize ≤ length (now s) ⌝ }
-    requires { ⌜ (length (now state) ≡ snapshotSize) × (length (now moving) ≡ movingSize) × Good (splitState (now state) (now moving)) ⌝ }
-    ensures state { λ _. ⌜ splitState (now (state .exit)) (now (moving .exit))
-        ≡ run counting (stretch at) (splitState (now (state .entry)) (now (moving .entry))) (now (s .entry)) 0 count ⌝ }
-    ensures good { λ _. ⌜ Good (splitState (now (state .exit)) (now (moving .exit))) ⌝ }
+// Takes the count events from byte at on over the state.
+pub fn advance(
+    ed: Edition,
+    events: &[u8],
+    at: usize,
+    count: usize,
+    state: &mut [u8],
+    moving: &mut [u8],
+)
+    requires { ⌜ (at + count * eventSize ≤ length (now events)) × Held (system ed) (now state) (now moving) ⌝ }
+    ensures state { λ _. ⌜ system ed .stateIn (now (state .exit)) (now (moving .exit))
+        ≡ run (system ed) (system ed .stateIn (now (state .entry)) (now (moving .entry))) (now (events .entry)) at count ⌝ }
+    ensures held { λ _. ⌜ Held (system ed) (now (state .exit)) (now (moving .exit)) ⌝ }
 {
     let mut i = 0;
     while i < count {
-        in_place::step_over(state, moving, s, at + i * EVENT_SIZE);
+        step(ed, events, at + i * EVENT_SIZE, state, moving);
         i += 1;
     }
 }

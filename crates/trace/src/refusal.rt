@@ -5,14 +5,14 @@ ghost use Rattle.trace.specs.Refusals.{numberOf, placeOf};
 // Each refusal in the table's order; a place stands with those that have one.
 pub enum Refusal {
     Short,
-    Sizes,
+    Limits,
     Offsets,
     Length,
     Event(usize),
     Snapshot(usize),
     Patch,
     PatchEvent(usize),
-    Buffer,
+    Size,
 }
 
 pub enum Verdict {
@@ -25,14 +25,14 @@ pub fn number_of(refusal: Refusal) -> u64
 {
     match refusal {
         Refusal::Short => 1,
-        Refusal::Sizes => 2,
+        Refusal::Limits => 2,
         Refusal::Offsets => 3,
         Refusal::Length => 4,
         Refusal::Event(_) => 5,
         Refusal::Snapshot(_) => 6,
         Refusal::Patch => 7,
         Refusal::PatchEvent(_) => 8,
-        Refusal::Buffer => 9,
+        Refusal::Size => 9,
     }
 }
 
@@ -42,13 +42,13 @@ pub fn place_of(refusal: Refusal) -> u64
 {
     match refusal {
         Refusal::Short => 0,
-        Refusal::Sizes => 0,
+        Refusal::Limits => 0,
         Refusal::Offsets => 0,
         Refusal::Length => 0,
         Refusal::Event(i) => i as u64,
         Refusal::Snapshot(j) => j as u64,
         Refusal::Patch => 0,
         Refusal::PatchEvent(i) => i as u64,
-        Refusal::Buffer => 0,
+        Refusal::Size => 0,
     }
 }

@@ -1,47 +1,35 @@
--- `trace::events::advance` meets its contract. The invariant: the state is a good one, that after the first i events; a turn is one event
+-- `trace::events::advance` meets its contract. The invariant: the lent bytes hold the state after the first i events; a turn is one event
 -- more. The measure is what is left of the events.
-use mathlib.Core.Path.{_≡_, sym, ap, _∙_, subst}
-use Prim.Native.Nat.{_+_, _-_, _*_, _≤_}
+use mathlib.Core.Path.{_≡_, sym, ap, _∙_}
+use Prim.Native.Nat.{_-_, _≤_}
 use native.Mathlib.Omega.{arith}
-use lib.ListN.{length}
-use Rattle.word.proofs.Part.{length-part, bytes-part}
-use Rattle.replay.specs.Replay.{run}
-use Rattle.replay.proofs.Run.{run-zero}
-use Rattle.counter.specs.WellFormed.{Good}
-use Rattle.snapshot.specs.EventBytes.{stepEvent}
-use Rattle.snapshot.specs.Split.{splitState}
-use Rattle.trace.specs.Counting.{counting, stretch}
-use Rattle.trace.proofs.Machine.{event-good}
-use Rattle.trace.proofs.Turns.{run-next}
+use Rattle.replay.specs.System.{Held}
+use Rattle.replay.specs.Events.{run}
+use Rattle.replay.proofs.Run.{run-zero, run-more}
+use Rattle.trace.specs.Editions.{system}
 use Rattle.trace.proofs.events.advance.Statement.{statement}
 use Rattle.trace.proofs.events.advance.Tie as tie
 
 abbrev Inv-loop : tie.InvT-loop
-Inv-loop s state₀ moving₀ at count i₀ state moving i =
+Inv-loop ed events at count state₀ moving₀ i₀ state moving i =
     (i ≤ count)
-    × (splitState state moving ≡ run counting (stretch at) (splitState state₀ moving₀) s 0 i)
-    × Good (splitState state moving)
-    × (length state ≡ 68)
-    × (length moving ≡ 9)
+    × (system ed .stateIn state moving ≡ run (system ed) (system ed .stateIn state₀ moving₀) events at i)
+    × Held (system ed) state moving
 
 abbrev μ-loop : tie.MeasureT-loop
-μ-loop s state₀ moving₀ at count i₀ state moving i = count - i
+μ-loop ed events at count state₀ moving₀ i₀ state moving i = count - i
 
 loop-holds : tie.Need-loop-holds Inv-loop μ-loop
-loop-holds c =
-    let start = c .before .before .before in
-    (omega arith, sym (run-zero counting (stretch _) _ _ 0), start .pre .1 .2, start .pre .1 .0, start .pre .1 .1)
+loop-holds c = (omega arith, sym (run-zero _ _ _ _), c .before .before .before .pre .1)
 
-mul-step-over : tie.Need-mul-step-over Inv-loop μ-loop
-mul-step-over c = omega arith
+mul-step : tie.Need-mul-step Inv-loop μ-loop
+mul-step c = omega arith
 
-add-step-over : tie.Need-add-step-over Inv-loop μ-loop
-add-step-over c = omega arith
+add-step : tie.Need-add-step Inv-loop μ-loop
+add-step c = omega arith
 
-step-over-requires : tie.Need-step-over-requires Inv-loop μ-loop
-step-over-requires c κs =
-    let inv = c .before .before .before .loop .inv in
-    (inv .3, inv .4, omega arith)
+step-requires : tie.Need-step-requires Inv-loop μ-loop
+step-requires c κs = (c .before .before .before .loop .inv .2, omega arith)
 
 add-i : tie.Need-add-i Inv-loop μ-loop
 add-i c = omega arith
@@ -53,35 +41,26 @@ loop-again : tie.Need-loop-again Inv-loop μ-loop
 loop-again c =
     let stepped = c .before .before .before .before in
     let at-loop = stepped .before .before .before .before in
-    let shared = at-loop .before .before .before in
-    let args = shared .before .args in
-    let inv = at-loop .loop .inv in
-    let at = args .at + at-loop .loop .i * 12 in
-    let whole = length-part (args .s .now) at 12 (omega arith) in
-    let bytes = bytes-part (args .s .now) at 12 (λ i. shared .shared-slice-known .given i .fits) in
-    let good = event-good _ _ (inv .2) whole bytes in
-    let next = stepped .step-over .ensures good in (
+    let a = at-loop .before .before .before .before .args in
+    let S = system (a .ed) in (
       omega arith,
-      next
-          ∙ ap (stepEvent _) (inv .1)
-          ∙ sym (run-next (splitState (args .state .now) (args .moving .now)) (args .s .now) (args .at) (at-loop .loop .i)),
-      subst Good (sym next) good,
-      stepped .step-over .kept .0 ∙ inv .3,
-      stepped .step-over .kept .1 .0 ∙ inv .4,
+      run-more S (S .stateIn (a .state .now) (a .moving .now)) (a .events .now) (a .at) (at-loop .loop .i) (at-loop .loop .inv .1) (stepped .step .ensures .0),
+      stepped .step .ensures .1,
     )
 
 same-length : tie.Need-same-length Inv-loop μ-loop
-same-length c = c .before .loop .inv .3 ∙ sym (c .before .before .before .before .before .pre .1 .0)
+same-length c = c .before .loop .inv .2 .whole ∙ sym (c .before .before .before .before .before .pre .1 .whole)
 
 same-length-2 : tie.Need-same-length-2 Inv-loop μ-loop
-same-length-2 c = c .before .loop .inv .4 ∙ sym (c .before .before .before .before .before .pre .1 .1)
+same-length-2 c = c .before .loop .inv .2 .aside ∙ sym (c .before .before .before .before .before .pre .1 .aside)
 
 returns : tie.Need-returns Inv-loop μ-loop
 returns c =
     let at-loop = c .before in
-    let args = at-loop .before .before .before .before .args in
-    let all : at-loop .loop .i ≡ args .count = omega arith in (
-      at-loop .loop .inv .1 ∙ ap (run counting (stretch (args .at)) (splitState (args .state .now) (args .moving .now)) (args .s .now) 0) all,
+    let a = at-loop .before .before .before .before .args in
+    let S = system (a .ed) in
+    let all : at-loop .loop .i ≡ a .count = omega arith in (
+      at-loop .loop .inv .1 ∙ ap (run S (S .stateIn (a .state .now) (a .moving .now)) (a .events .now) (a .at)) all,
       at-loop .loop .inv .2,
     )
 
@@ -92,9 +71,9 @@ advance-spec =
     Inv-loop
     μ-loop
     loop-holds
-    mul-step-over
-    add-step-over
-    step-over-requires
+    mul-step
+    add-step
+    step-requires
     add-i
     loop-less
     loop-again

@@ -4,34 +4,35 @@ use mathlib.Core.Path.{_≡_, sym, ap, _∙_}
 use Prim.Native.Nat.{_-_, _≤_}
 use native.Mathlib.Omega.{arith}
 use borrow.Author.Tests.{not-true, not-false}
-use Rattle.trace.specs.Verdicts.{firstIllegal}
-use Rattle.trace.proofs.Legality.{scan-end, scan-stop, scan-next}
+use Rattle.replay.specs.Events.{firstIllegal}
+use Rattle.replay.proofs.Scan.{scan-end, scan-stop, scan-next}
+use Rattle.trace.specs.Editions.{system}
 use Rattle.trace.proofs.events.first_illegal.Statement.{statement}
 use Rattle.trace.proofs.events.first_illegal.Tie as tie
 
 abbrev Inv-loop : tie.InvT-loop
-Inv-loop s at count i₀ i = (i ≤ count) × (firstIllegal s at i (count - i) ≡ firstIllegal s at 0 count)
+Inv-loop ed events at count i₀ i = (i ≤ count) × (firstIllegal (system ed) events at i (count - i) ≡ firstIllegal (system ed) events at 0 count)
 
 abbrev μ-loop : tie.MeasureT-loop
-μ-loop s at count i₀ i = count - i
+μ-loop ed events at count i₀ i = count - i
 
 loop-holds : tie.Need-loop-holds Inv-loop μ-loop
-loop-holds c = (omega arith, ap (firstIllegal _ _ 0) (omega arith))
+loop-holds c = (omega arith, ap (firstIllegal _ _ _ 0) (omega arith))
 
-mul-legal-event : tie.Need-mul-legal-event Inv-loop μ-loop
-mul-legal-event c = omega arith
+mul-legal : tie.Need-mul-legal Inv-loop μ-loop
+mul-legal c = omega arith
 
-add-legal-event : tie.Need-add-legal-event Inv-loop μ-loop
-add-legal-event c = omega arith
+add-legal : tie.Need-add-legal Inv-loop μ-loop
+add-legal c = omega arith
 
-legal-event-requires : tie.Need-legal-event-requires Inv-loop μ-loop
-legal-event-requires c κs = omega arith
+legal-requires : tie.Need-legal-requires Inv-loop μ-loop
+legal-requires c κs = omega arith
 
 returns : tie.Need-returns Inv-loop μ-loop
 returns c =
     let in-loop = c .before .before in
-    let illegal = sym (c .before .legal-event .ensures) ∙ not-true _ (c .if1 .taken) in
-    sym (scan-stop _ _ _ _ (in-loop .loop-test .taken) illegal) ∙ in-loop .before .loop .inv .1
+    let illegal = sym (c .before .legal .ensures) ∙ not-true _ (c .if1 .taken) in
+    sym (scan-stop _ _ _ _ _ (in-loop .loop-test .taken) illegal) ∙ in-loop .before .loop .inv .1
 
 add-i : tie.Need-add-i Inv-loop μ-loop
 add-i c = omega arith
@@ -42,11 +43,11 @@ loop-less c = omega arith
 loop-again : tie.Need-loop-again Inv-loop μ-loop
 loop-again c =
     let in-loop = c .before .before in
-    let legal = sym (c .before .legal-event .ensures) ∙ not-false _ (c .if1 .left) in
-    (omega arith, sym (scan-next _ _ _ _ (in-loop .loop-test .taken) legal) ∙ in-loop .before .loop .inv .1)
+    let passes = sym (c .before .legal .ensures) ∙ not-false _ (c .if1 .left) in
+    (omega arith, sym (scan-next _ _ _ _ _ (in-loop .loop-test .taken) passes) ∙ in-loop .before .loop .inv .1)
 
 returns-2 : tie.Need-returns-2 Inv-loop μ-loop
-returns-2 c = sym (scan-end _ _ _ _ (c .loop-test .left)) ∙ c .before .loop .inv .1
+returns-2 c = sym (scan-end _ _ _ _ _ (c .loop-test .left)) ∙ c .before .loop .inv .1
 
 pub first-illegal-spec : {M : Type 1} → statement M
 first-illegal-spec =
@@ -55,9 +56,9 @@ first-illegal-spec =
     Inv-loop
     μ-loop
     loop-holds
-    mul-legal-event
-    add-legal-event
-    legal-event-requires
+    mul-legal
+    add-legal
+    legal-requires
     returns
     add-i
     loop-less

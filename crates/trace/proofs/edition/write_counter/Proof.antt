@@ -1,4 +1,4 @@
--- `trace::table::write_snapshot` meets its contract: the snapshot's bytes are copied, and the three numbers go over theirs.
+-- `trace::edition::write_counter` meets its contract: the snapshot's bytes are copied, and the three numbers go over theirs.
 use borrow.Author.Needs.{needs}
 use mathlib.Core.Path.{_≡_, sym, ap, _∙_}
 use mathlib.Core.List.{List}
@@ -12,8 +12,8 @@ use Rattle.snapshot.specs.Widths.{snapshotSize}
 use Rattle.snapshot.specs.Snapshots.{encode}
 use Rattle.snapshot.specs.Split.{splitState}
 use Rattle.snapshot.proofs.RoundTrip.{length-encode}
-use Rattle.trace.proofs.table.write_snapshot.Statement.{statement}
-use Rattle.trace.proofs.table.write_snapshot.Tie as tie
+use Rattle.trace.proofs.edition.write_counter.Statement.{statement}
+use Rattle.trace.proofs.edition.write_counter.Tie as tie
 
 written : (image b m : List ℕ) (at : ℕ) {t u : List ℕ} → at + snapshotSize ≤ length image → length b ≡ snapshotSize → t ≡ put image at b
     → u ≡ put t at (encode (splitState (part t at snapshotSize) m)) → u ≡ put image at (encode (splitState b m))
@@ -42,6 +42,6 @@ returns c =
     let a = start .args in
     written (now (a .image)) (now (a .state)) (now (a .moving)) (a .at) (start .pre .0) (start .pre .1) (copied .copy-over .ensures) (wrote .write-over .ensures)
 
-pub write-snapshot-spec : {M : Type 1} → statement M
-write-snapshot-spec =
+pub write-counter-spec : {M : Type 1} → statement M
+write-counter-spec =
     tie.close (tie.spec copy-over-requires write-over-requires same-length returns)
