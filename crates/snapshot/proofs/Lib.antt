@@ -1,5 +1,5 @@
 -- The laws of the definitions in `specs/`, for callers to cite.
-pub mod InPlace
+pub mod Moving
 pub mod Offsets
 pub mod Causes
 pub mod Rules

@@ -11,6 +11,7 @@ use Rattle.word.specs.LittleEndian.{numberAt}
 use Rattle.counter.specs.declared.state.Counter.{Counter}
 use Rattle.counter.specs.WellFormed.{wellFormed, causesFormed, errorFormed, activeFormed, queueFormed}
 use Rattle.snapshot.specs.Widths.{snapshotSize}
+use Rattle.snapshot.specs.Places.{activeAt, outAt, erAt, flagsAt, levelsAt, runningAt, firstAt, secondAt}
 use Rattle.snapshot.specs.Snapshots.{decode, settingsAt}
 use Rattle.snapshot.specs.FormedBytes.{causesStand, errorStands, activeStands, formed}
 use Rattle.snapshot.proofs.Offsets.{decode-places, decode-part}
@@ -53,7 +54,7 @@ bounded c h =
 -- exactly where the state is
 pub formed-decode : (b : List ℕ) → formed b ≡ wellFormed (decode b)
 unfolding formed wellFormed causesFormed errorFormed activeFormed
-formed-decode b = rw (decode-places b, causes-stand (numberAt b 65 1) (numberAt b 66 1) (numberAt b 67 1))
+formed-decode b = rw (decode-places b, causes-stand (numberAt b runningAt 1) (numberAt b firstAt 1) (numberAt b secondAt 1))
 
 -- well formed by the parts of a state, the two waiting bytes among them
 abbrev stands : Counter → Bool
@@ -68,11 +69,11 @@ stands c =
 -- what well formed asks of the snapshot from place at
 pub formed-part : (s : List ℕ) (at : ℕ)
     → formed (part s at snapshotSize)
-    ≡ (ltb (numberAt s (at + 60) 4) (2 ^ 20)
-    && ltb (numberAt s (at + 56) 2) (2 ^ 12)
-    && leb (numberAt s (at + 64) 1) 15
-    && causesStand (numberAt s (at + 65) 1) (numberAt s (at + 66) 1) (numberAt s (at + 67) 1)
-    && errorStands (numberAt s (at + 58) 2) (numberAt s (at + 60) 4)
-    && activeStands (numberAt s (at + 60) 4) (settingsAt s (at + 26)))
+    ≡ (ltb (numberAt s (at + flagsAt) 4) (2 ^ 20)
+    && ltb (numberAt s (at + outAt) 2) (2 ^ 12)
+    && leb (numberAt s (at + levelsAt) 1) 15
+    && causesStand (numberAt s (at + runningAt) 1) (numberAt s (at + firstAt) 1) (numberAt s (at + secondAt) 1)
+    && errorStands (numberAt s (at + erAt) 2) (numberAt s (at + flagsAt) 4)
+    && activeStands (numberAt s (at + flagsAt) 4) (settingsAt s (at + activeAt)))
 unfolding formed
 formed-part s at = ap stands (sym (decode-places (part s at snapshotSize)) ∙ decode-part s at)

@@ -9,6 +9,7 @@ use Rattle.counter.specs.declared.state.Settings.{Settings}
 use Rattle.counter.specs.Parts.{ED, LOADED}
 use Rattle.counter.specs.Loading.{firstBroken}
 use Rattle.counter.specs.WellFormed.{isNone}
+use Rattle.snapshot.specs.Places.{activeAt, outAt, erAt, flagsAt, levelsAt, runningAt, firstAt, secondAt}
 use Rattle.snapshot.specs.Snapshots.{settingsAt}
 
 -- causes <= 4, second waiting only with a first, first only with one running
@@ -29,12 +30,11 @@ abbrev pub activeStands : ℕ → Settings → Bool
 activeStands flags s = cond (bit flags LOADED) (eqb (firstBroken s) 0) (isNone s)
 
 -- Flag bits 20-31 zero, output bits 12-15 zero, levels <= 15; then the causes, ER, and the active settings.
--- Active at 26-51, outputs at 56-57, ER at 58-59, flags at 60-63, levels at 64, running at 65, waiting at 66 and 67.
 unfoldable pub formed : List ℕ → Bool
 formed b =
-    ltb (numberAt b 60 4) (2 ^ 20)
-    && ltb (numberAt b 56 2) (2 ^ 12)
-    && leb (numberAt b 64 1) 15
-    && causesStand (numberAt b 65 1) (numberAt b 66 1) (numberAt b 67 1)
-    && errorStands (numberAt b 58 2) (numberAt b 60 4)
-    && activeStands (numberAt b 60 4) (settingsAt b 26)
+    ltb (numberAt b flagsAt 4) (2 ^ 20)
+    && ltb (numberAt b outAt 2) (2 ^ 12)
+    && leb (numberAt b levelsAt 1) 15
+    && causesStand (numberAt b runningAt 1) (numberAt b firstAt 1) (numberAt b secondAt 1)
+    && errorStands (numberAt b erAt 2) (numberAt b flagsAt 4)
+    && activeStands (numberAt b flagsAt 4) (settingsAt b activeAt)

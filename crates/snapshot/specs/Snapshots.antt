@@ -11,6 +11,9 @@ use Rattle.word.specs.Layouts.{pack, unpack}
 use Rattle.counter.specs.declared.state.Settings.{Settings}
 use Rattle.counter.specs.declared.state.Counter.{Counter}
 use Rattle.snapshot.specs.Widths.{snapshotLayout}
+use Rattle.snapshot.specs.Places.{modeAt, hipAt, lopAt, ovfAt, unfAt, ombAt, hpoAt, lpoAt}
+use Rattle.snapshot.specs.Places.{activeAt, accAt, outAt, erAt, flagsAt, levelsAt, runningAt, firstAt, secondAt}
+use Rattle.snapshot.specs.Places.{activeIndex, accIndex, outIndex, erIndex, flagsIndex, levelsIndex, runningIndex, firstIndex, secondIndex}
 
 -- ---- from a state to bytes
 
@@ -70,47 +73,47 @@ abbrev pub stateOf : List ℕ → Counter
 stateOf r =
     record {
       staged = settingsOf r;
-      active = settingsOf (drop 9 r);
-      acc = signed w32 (getD r 18 0);
-      out = getD r 19 0;
-      er = getD r 20 0;
-      flags = getD r 21 0;
-      levels = getD r 22 0;
-      running = getD r 23 0;
-      waiting = getD r 24 0 ∷ getD r 25 0 ∷ [];
-      queued = queuedOf (getD r 24 0) (getD r 25 0);
+      active = settingsOf (drop activeIndex r);
+      acc = signed w32 (getD r accIndex 0);
+      out = getD r outIndex 0;
+      er = getD r erIndex 0;
+      flags = getD r flagsIndex 0;
+      levels = getD r levelsIndex 0;
+      running = getD r runningIndex 0;
+      waiting = getD r firstIndex 0 ∷ getD r secondIndex 0 ∷ [];
+      queued = queuedOf (getD r firstIndex 0) (getD r secondIndex 0);
     }
 
 unfoldable pub decode : List ℕ → Counter
 decode b = stateOf (unpack snapshotLayout b)
 
--- ---- the same by document 01's places: what stands in a list of bytes from place at
+-- ---- the same by document 01's byte offsets: what stands in a list of bytes from byte at
 
 abbrev pub settingsAt : List ℕ → ℕ → Settings
 settingsAt s at =
     record {
       pfn = signed w16 (numberAt s at 2);
-      mode = signed w16 (numberAt s (at + 2) 2);
-      hip = signed w32 (numberAt s (at + 4) 4);
-      lop = signed w32 (numberAt s (at + 8) 4);
-      ovf = signed w32 (numberAt s (at + 12) 4);
-      unf = signed w32 (numberAt s (at + 16) 4);
-      omb = numberAt s (at + 20) 2;
-      hpo = numberAt s (at + 22) 2;
-      lpo = numberAt s (at + 24) 2;
+      mode = signed w16 (numberAt s (at + modeAt) 2);
+      hip = signed w32 (numberAt s (at + hipAt) 4);
+      lop = signed w32 (numberAt s (at + lopAt) 4);
+      ovf = signed w32 (numberAt s (at + ovfAt) 4);
+      unf = signed w32 (numberAt s (at + unfAt) 4);
+      omb = numberAt s (at + ombAt) 2;
+      hpo = numberAt s (at + hpoAt) 2;
+      lpo = numberAt s (at + lpoAt) 2;
     }
 
 abbrev pub stateAt : List ℕ → ℕ → Counter
 stateAt s at =
     record {
       staged = settingsAt s at;
-      active = settingsAt s (at + 26);
-      acc = signed w32 (numberAt s (at + 52) 4);
-      out = numberAt s (at + 56) 2;
-      er = numberAt s (at + 58) 2;
-      flags = numberAt s (at + 60) 4;
-      levels = numberAt s (at + 64) 1;
-      running = numberAt s (at + 65) 1;
-      waiting = numberAt s (at + 66) 1 ∷ numberAt s (at + 67) 1 ∷ [];
-      queued = queuedOf (numberAt s (at + 66) 1) (numberAt s (at + 67) 1);
+      active = settingsAt s (at + activeAt);
+      acc = signed w32 (numberAt s (at + accAt) 4);
+      out = numberAt s (at + outAt) 2;
+      er = numberAt s (at + erAt) 2;
+      flags = numberAt s (at + flagsAt) 4;
+      levels = numberAt s (at + levelsAt) 1;
+      running = numberAt s (at + runningAt) 1;
+      waiting = numberAt s (at + firstAt) 1 ∷ numberAt s (at + secondAt) 1 ∷ [];
+      queued = queuedOf (numberAt s (at + firstAt) 1) (numberAt s (at + secondAt) 1);
     }

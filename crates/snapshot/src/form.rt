@@ -1,4 +1,5 @@
 // Whether a snapshot is well formed.
+use crate::places;
 use crate::settings::read_settings;
 use counter::flag;
 use counter::rules::first_broken;
@@ -12,8 +13,6 @@ ghost use Rattle.word.specs.Part.{part};
 ghost use Rattle.counter.specs.WellFormed.{isNone};
 ghost use Rattle.snapshot.specs.Widths.{snapshotSize};
 ghost use Rattle.snapshot.specs.FormedBytes.{causesStand, errorStands, activeStands, formed};
-
-// The flags that well formed speaks of, by bit.
 
 // Below this, flag bits 20-31 are zero.
 const FLAGS_END: u32 = 0x10_0000;
@@ -65,19 +64,23 @@ fn active_stands(flags: u32, s: Settings) -> bool
     }
 }
 
-// Whether the snapshot from place at is well formed.
+// Whether the snapshot from byte at is well formed.
 pub fn formed(s: &[u8], at: usize) -> bool
     requires { ⌜ at + snapshotSize ≤ length (now s) ⌝ }
     ensures { λ r. ⌜ r ≡ formed (part (now (s .entry)) at snapshotSize) ⌝ }
 {
-    let flags = bytes::read_u32(s, at + 60);
-    let out = bytes::read_u16(s, at + 56);
-    let er = bytes::read_u16(s, at + 58);
-    let active = read_settings(s, at + 26);
+    let flags = bytes::read_u32(s, at + places::FLAGS);
+    let out = bytes::read_u16(s, at + places::OUTPUTS);
+    let er = bytes::read_u16(s, at + places::ER);
+    let active = read_settings(s, at + places::ACTIVE);
     (flags < FLAGS_END)
         & (out < OUTPUTS_END)
-        & (s[at + 64] <= 15)
-        & causes_stand(s[at + 65], s[at + 66], s[at + 67])
+        & (s[at + places::LEVELS] <= 15)
+        & causes_stand(
+            s[at + places::RUNNING],
+            s[at + places::FIRST],
+            s[at + places::SECOND],
+        )
         & error_stands(er, flags)
         & active_stands(flags, active)
 }

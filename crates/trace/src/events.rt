@@ -1,7 +1,7 @@
 // A row of events in a lent slice: the first that is illegal, and the state after all of them, which stands in lent bytes.
 use snapshot::EVENT_SIZE;
 use snapshot::event;
-use snapshot::in_place;
+use snapshot::split;
 ghost use mathlib.Core.Path.{_≡_};
 ghost use Prim.Native.Nat.{_+_, _*_, _≤_};
 ghost use lib.ListN.{length};
@@ -37,7 +37,7 @@ pub fn advance(s: &[u8], state: &mut [u8], moving: &mut [u8], at: usize, count: 
 {
     let mut i = 0;
     while i < count {
-        in_place::step_over(state, moving, s, at + i * EVENT_SIZE);
+        split::step_over(state, moving, s, at + i * EVENT_SIZE);
         i += 1;
     }
 }

@@ -1,5 +1,5 @@
 // A snapshot of the table, written from a state.
-use snapshot::in_place::write_over;
+use snapshot::split::write_over;
 use word::parts::copy_over;
 ghost use mathlib.Core.Path.{_≡_};
 ghost use Prim.Native.Nat.{_+_, _≤_};

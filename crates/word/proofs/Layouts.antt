@@ -11,7 +11,7 @@ use Rattle.word.specs.LittleEndian.{toBytes, ofBytes, numberAt}
 use Rattle.word.specs.Layouts.{total, pack, unpack, Held, none, more}
 use Rattle.word.proofs.Part.{bytes-take, bytes-drop, bytes-append, take-part, drop-part}
 use Rattle.word.proofs.Put.{put-front, put-append}
-use Rattle.word.proofs.LittleEndian.{length-toBytes, bytes-toBytes, ofBytes-toBytes, toBytes-ofBytes}
+use Rattle.word.proofs.LittleEndian.{length-toBytes, bytes-toBytes, ofBytes-lt, ofBytes-toBytes, toBytes-ofBytes}
 
 pub length-pack : (ks vs : List ℕ) → length vs ≡ length ks → length (pack ks vs) ≡ total ks
 unfolding pack total
@@ -57,6 +57,14 @@ pack-unpack [] (x ∷ xs) b h = absurd (suc-ne-zero (length xs) h)
 pack-unpack (k ∷ ks) bs b h =
     let first : toBytes k (ofBytes (take k bs)) ≡ take k bs = rw (length-first k ks bs b h) at (toBytes-ofBytes (take k bs) (bytes-take k bs b)) in
     rw (first, pack-unpack ks (drop k bs) (bytes-drop k bs b) (length-rest k ks bs b h)) (take-append-drop k bs)
+
+-- and that row's widths hold its numbers
+pub held-unpack : (ks bs : List ℕ) → Bytes bs → length bs ≡ total ks → Held ks (unpack ks bs)
+unfolding unpack total
+held-unpack [] bs b h = none
+held-unpack (k ∷ ks) bs b h =
+    more (rw (length-first k ks bs b h) at (ofBytes-lt (take k bs) (bytes-take k bs b)))
+    (held-unpack ks (drop k bs) (bytes-drop k bs b) (length-rest k ks bs b h))
 
 -- ---- rows side by side, and a row's bytes
 

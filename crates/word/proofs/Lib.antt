@@ -7,4 +7,5 @@ pub mod LittleEndian
 pub mod TwosComplement
 pub mod Layouts
 pub mod Writes
+pub mod Replaced
 pub mod Branches

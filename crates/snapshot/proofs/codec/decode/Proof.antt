@@ -8,6 +8,7 @@ use mir.Syntax.{w32}
 use Rattle.word.proofs.LittleEndian.{byte-at}
 use Rattle.word.proofs.TwosComplement.{signed-read}
 use Rattle.snapshot.specs.Widths.{snapshotSize}
+use Rattle.snapshot.specs.Places.{levelsAt, runningAt, firstAt, secondAt}
 use Rattle.snapshot.specs.Snapshots.{queuedOf}
 use Rattle.snapshot.proofs.Offsets.{decode-part}
 use Rattle.snapshot.proofs.codec.decode.Statement.{statement}
@@ -93,10 +94,10 @@ returns c =
       out = out .read-u16 .ensures i;
       er = er .read-u162 .ensures i;
       flags = flags .read-u32 .ensures i;
-      levels = byte 64 (omega arith) i;
-      running = byte 65 (omega arith) i;
-      waiting = byte 66 (omega arith) i ∷ byte 67 (omega arith) i ∷ [];
-      queued = (c .queued .ensures ∙ ap₂ queuedOf (byte 66 (omega arith)) (byte 67 (omega arith))) i;
+      levels = byte levelsAt (omega arith) i;
+      running = byte runningAt (omega arith) i;
+      waiting = byte firstAt (omega arith) i ∷ byte secondAt (omega arith) i ∷ [];
+      queued = (c .queued .ensures ∙ ap₂ queuedOf (byte firstAt (omega arith)) (byte secondAt (omega arith))) i;
     })
 
 pub decode-spec : {M : Type 1} → statement M

@@ -15,6 +15,7 @@ use Rattle.counter.specs.declared.state.Counter.{Counter}
 use Rattle.counter.specs.WellFormed.{Typed}
 use Rattle.counter.proofs.Told.{counter-told}
 use Rattle.snapshot.specs.Widths.{settingsLayout, snapshotLayout}
+use Rattle.snapshot.specs.Places.{activeAt, accAt, levelsAt}
 use Rattle.snapshot.specs.Snapshots.{settingsRow, encode}
 use Rattle.snapshot.proofs.codec.encode.Statement.{statement}
 use Rattle.snapshot.proofs.codec.encode.Tie as tie
@@ -25,9 +26,9 @@ other v = v .out ∷ v .er ∷ v .flags ∷ v .levels ∷ v .running ∷ getD (v
 
 rows : (v : Counter) → Typed v → (s t u w x : List ℕ) (at : ℕ) → at ≤ length s
     → t ≡ put s at (pack settingsLayout (settingsRow (v .staged)))
-    → u ≡ put t (at + 26) (pack settingsLayout (settingsRow (v .active)))
-    → w ≡ put u (at + 52) (pack (4 ∷ 2 ∷ 2 ∷ 4 ∷ []) (handed w32 (v .acc) ∷ v .out ∷ v .er ∷ v .flags ∷ []))
-    → x ≡ put w (at + 64) (pack (1 ∷ 1 ∷ 1 ∷ 1 ∷ []) (v .levels ∷ v .running ∷ getD (v .waiting) 0 0 ∷ getD (v .waiting) 1 0 ∷ []))
+    → u ≡ put t (at + activeAt) (pack settingsLayout (settingsRow (v .active)))
+    → w ≡ put u (at + accAt) (pack (4 ∷ 2 ∷ 2 ∷ 4 ∷ []) (handed w32 (v .acc) ∷ v .out ∷ v .er ∷ v .flags ∷ []))
+    → x ≡ put w (at + levelsAt) (pack (1 ∷ 1 ∷ 1 ∷ 1 ∷ []) (v .levels ∷ v .running ∷ getD (v .waiting) 0 0 ∷ getD (v .waiting) 1 0 ∷ []))
     → x ≡ put s at (encode v)
 unfolding total encode
 rows v f s t u w x at h first second third fourth =

@@ -9,6 +9,7 @@ use denote.Ref.{now}
 use Rattle.word.specs.LittleEndian.{numberAt}
 use Rattle.word.proofs.LittleEndian.{byte-at}
 use Rattle.snapshot.specs.Widths.{snapshotSize}
+use Rattle.snapshot.specs.Places.{activeAt, erAt, flagsAt, levelsAt, runningAt, firstAt, secondAt}
 use Rattle.snapshot.specs.Snapshots.{settingsAt}
 use Rattle.snapshot.specs.FormedBytes.{causesStand, errorStands, activeStands}
 use Rattle.snapshot.proofs.Rules.{formed-part}
@@ -83,16 +84,16 @@ returns c =
     let s = now (start .args .s) in
     let at = start .args .at in
     let byte = byte-at s at snapshotSize (start .pre) in
-    let causes-stand : causes .causes-stand .result ≡ causesStand (numberAt s (at + 65) 1) (numberAt s (at + 66) 1) (numberAt s (at + 67) 1) =
-    causes .causes-stand .ensures ∙ (λ i. causesStand (byte 65 (omega arith) i) (byte 66 (omega arith) i) (byte 67 (omega arith) i)) in
-    let error-stands : c .before .error-stands .result ≡ errorStands (numberAt s (at + 58) 2) (numberAt s (at + 60) 4) =
+    let causes-stand : causes .causes-stand .result ≡ causesStand (numberAt s (at + runningAt) 1) (numberAt s (at + firstAt) 1) (numberAt s (at + secondAt) 1) =
+    causes .causes-stand .ensures ∙ (λ i. causesStand (byte runningAt (omega arith) i) (byte firstAt (omega arith) i) (byte secondAt (omega arith) i)) in
+    let error-stands : c .before .error-stands .result ≡ errorStands (numberAt s (at + erAt) 2) (numberAt s (at + flagsAt) 4) =
     c .before .error-stands .ensures ∙ (λ i. errorStands (er .read-u162 .ensures i) (flags .read-u32 .ensures i)) in
-    let active-stands : c .active-stands .result ≡ activeStands (numberAt s (at + 60) 4) (settingsAt s (at + 26)) =
+    let active-stands : c .active-stands .result ≡ activeStands (numberAt s (at + flagsAt) 4) (settingsAt s (at + activeAt)) =
     c .active-stands .ensures ∙ (λ i. activeStands (flags .read-u32 .ensures i) (active .read-settings .ensures i)) in
     rw (formed-part s at)
     (λ i. ltb (flags .read-u32 .ensures i) (2 ^ 20)
     && ltb (out .read-u16 .ensures i) (2 ^ 12)
-    && leb (byte 64 (omega arith) i) 15
+    && leb (byte levelsAt (omega arith) i) 15
     && causes-stand i
     && error-stands i
     && active-stands i)

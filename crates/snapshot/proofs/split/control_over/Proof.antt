@@ -1,11 +1,11 @@
--- `snapshot::in_place::control_over` meets its contract: the state is read whole and written whole.
+-- `snapshot::split::control_over` meets its contract: the state is read whole and written whole.
 use borrow.Author.Needs.{needs}
 use mathlib.Core.Path.{ap₂, _∙_}
 use Rattle.word.proofs.TwosComplement.{signed-unsigned}
 use Rattle.counter.specs.Events.{stepControl}
-use Rattle.snapshot.proofs.InPlace.{holds-as}
-use Rattle.snapshot.proofs.in_place.control_over.Statement.{statement}
-use Rattle.snapshot.proofs.in_place.control_over.Tie as tie
+use Rattle.snapshot.proofs.Moving.{holds-as}
+use Rattle.snapshot.proofs.split.control_over.Statement.{statement}
+use Rattle.snapshot.proofs.split.control_over.Tie as tie
 
 read-state-requires : tie.Need-read-state-requires
 read-state-requires c κs = search needs

@@ -1,4 +1,4 @@
--- `snapshot::in_place::step_over` meets its contract: an event is a legal sample, or its step is that of the other kinds.
+-- `snapshot::split::step_over` meets its contract: an event is a legal sample, or its step is that of the other kinds.
 use borrow.Author.Needs.{needs}
 use mathlib.Core.Path.{_≡_, sym, ap, _∙_}
 use mathlib.Core.Bool.{Bool}
@@ -17,9 +17,9 @@ use Rattle.snapshot.specs.EventBytes.{eventOf, stepEvent}
 use Rattle.snapshot.specs.Split.{splitState}
 use Rattle.snapshot.specs.declared.event.Event.{Event}
 use Rattle.snapshot.proofs.Sampled.{sample-told}
-use Rattle.snapshot.proofs.InPlace.{holds-as}
-use Rattle.snapshot.proofs.in_place.step_over.Statement.{statement}
-use Rattle.snapshot.proofs.in_place.step_over.Tie as tie
+use Rattle.snapshot.proofs.Moving.{holds-as}
+use Rattle.snapshot.proofs.split.step_over.Statement.{statement}
+use Rattle.snapshot.proofs.split.step_over.Tie as tie
 
 abbrev entry : tie.After-is-sample → tie.Start
 entry c = c .before .before .before .before .before .before

@@ -1,14 +1,19 @@
--- `snapshot::in_place::write_state` meets its contract: a good state is read back from what was written.
+-- `snapshot::split::write_state` meets its contract: a good state is read back from what was written.
 use borrow.Author.Needs.{needs}
 use mathlib.Core.Path.{ap, _∙_}
+use mathlib.Core.List.{[], _∷_}
 use lib.IntN.{ℤ}
 use denote.Ref.{now}
+use mir.Syntax.{w32}
+use Rattle.word.specs.TwosComplement.{unsigned}
+use Rattle.word.specs.Layouts.{pack}
 use Rattle.word.proofs.TwosComplement.{signed-unsigned}
 use Rattle.counter.proofs.Told.{counter-told}
-use Rattle.snapshot.specs.Split.{movingBytes, splitState}
-use Rattle.snapshot.proofs.InPlace.{written-whole, split-written}
-use Rattle.snapshot.proofs.in_place.write_state.Statement.{statement}
-use Rattle.snapshot.proofs.in_place.write_state.Tie as tie
+use Rattle.snapshot.specs.Widths.{movingLayout}
+use Rattle.snapshot.specs.Split.{splitState}
+use Rattle.snapshot.proofs.Moving.{written-whole, split-written}
+use Rattle.snapshot.proofs.split.write_state.Statement.{statement}
+use Rattle.snapshot.proofs.split.write_state.Tie as tie
 
 encode-requires : tie.Need-encode-requires
 encode-requires c κs = search needs
@@ -31,7 +36,7 @@ returns c =
     let d = start .args .c in
     let bytes = written-whole (now (start .args .s)) d (start .pre .0) (encoded .encode .ensures) in
     let fits = counter-told d _ (told .struct-told .given) .acc in
-    let moving = moved .write-moving .ensures ∙ ap (λ (v : ℤ). movingBytes v (d .flags) (d .levels)) (signed-unsigned fits) in
+    let moving = moved .write-moving .ensures ∙ ap (λ (v : ℤ). pack movingLayout (unsigned w32 v ∷ d .flags ∷ d .levels ∷ [])) (signed-unsigned fits) in
     λ good. (λ i. splitState (bytes i) (moving i)) ∙ split-written d good
 
 pub write-state-spec : {M : Type 1} → statement M
