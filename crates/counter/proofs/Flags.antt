@@ -6,8 +6,12 @@ use native.Mathlib.Nat.{lt-of-le-of-lt, lt-trans}
 use lib.Dec.{T, eqb, ltb, lit<}
 use Rattle.word.specs.Masks.{bit, setBit, clearBit}
 use Rattle.word.proofs.Masks.{bit-setBit, bit-clearBit, setBit-lt, clearBit-le}
-use Rattle.counter.specs.Parts.{ED, LOADED, DIR, UF, OF, MD, LPI, HPI, UFI, OFI, lowPreset, highPreset, underflow, overflow}
-use Rattle.counter.specs.Interrupts.{quiet, started}
+use Rattle.counter.specs.declared.desk.Outcome.{Outcome}
+use Rattle.counter.specs.declared.desk.Outcome.the-variants.{Starts, Waits, Lost}
+use Rattle.counter.specs.declared.desk.Next.{Next}
+use Rattle.counter.specs.declared.desk.Next.the-variants.{Cause, Nothing}
+use Rattle.counter.specs.Parts.{UIL, ED, LOADED, DIR, UF, OF, MD, LPI, HPI, UFI, OFI, lowPreset, highPreset, underflow, overflow}
+use Rattle.counter.specs.Interrupts.{quiet, started, postedFlags, finishedFlags}
 use Rattle.counter.specs.Sample.{upFlags, downFlags}
 
 pub record Kept (w v : ℕ) : Type 0 where
@@ -90,3 +94,14 @@ kept-started cause w =
   where
     start : (n : ℕ) → Other n → Kept w (setBit (quiet w) n)
     start n o = kept-trans w (quiet w) (setBit (quiet w) n) (kept-quiet w) (kept-set (quiet w) n o)
+
+pub kept-posted : (outcome : Outcome) (cause w : ℕ) → Kept w (postedFlags outcome cause w)
+unfolding postedFlags
+kept-posted Starts cause w = kept-started cause w
+kept-posted Waits cause w = kept-refl w
+kept-posted Lost cause w = kept-set w UIL (other UIL tt refl refl)
+
+pub kept-finished : (next : Next) (w : ℕ) → Kept w (finishedFlags next w)
+unfolding finishedFlags
+kept-finished (Cause cause) w = kept-started cause w
+kept-finished Nothing w = kept-refl w

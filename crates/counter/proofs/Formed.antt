@@ -5,6 +5,7 @@ use Prim.Native.Nat.{ℕ, _<_, _≤_, _^_}
 use borrow.Author.Tests.{ltb-true, leb-true, lt-ltb, le-leb}
 use lib.Dec.{eqb}
 use lib.ListN.{getD}
+use Rattle.counter.specs.declared.desk.Desk.{Desk}
 use Rattle.counter.specs.declared.state.Counter.{Counter}
 use Rattle.counter.specs.Parts.{flag, ED}
 use Rattle.counter.specs.WellFormed.{activeFormed, queueFormed, causesFormed, errorFormed, wellFormed}
@@ -35,28 +36,28 @@ same-refl false = refl
 -- ---- the parts
 
 -- a first waiting cause only with one running
-pub record Causes (running first second queued : ℕ) : Type 0 where
-  pub small : running ≤ 4
-  pub queue : queueFormed first second queued ≡ true
-  pub served : (eqb queued 0 || not (eqb running 0)) ≡ true
+pub record Causes (d : Desk) : Type 0 where
+  pub small : d .running ≤ 4
+  pub queue : queueFormed (getD (d .waiting) 0 0) (getD (d .waiting) 1 0) (d .queued) ≡ true
+  pub served : (eqb (d .queued) 0 || not (eqb (d .running) 0)) ≡ true
 
 pub record Formed (c : Counter) : Type 0 where
   pub flags : c .flags < 2 ^ 20
   pub out : c .out < 2 ^ 12
   pub levels : c .levels ≤ 15
-  pub causes : Causes (c .running) (getD (c .waiting) 0 0) (getD (c .waiting) 1 0) (c .queued)
+  pub causes : Causes (c .desk)
   pub er : c .er ≤ 5
   pub ed : flag c ED ≡ not (eqb (c .er) 0)
   pub active : activeFormed c ≡ true
 
-pub causes-parts : (c : Counter) → causesFormed c ≡ true → Causes (c .running) (getD (c .waiting) 0 0) (getD (c .waiting) 1 0) (c .queued)
+pub causes-parts : (c : Counter) → causesFormed c ≡ true → Causes (c .desk)
 unfolding causesFormed
 causes-parts c h =
-    record { small = leb-true (c .running) 4 (search (first, second)); queue = search (first, second); served = search (first, second) }
+    record { small = leb-true (c .desk .running) 4 (search (first, second)); queue = search (first, second); served = search (first, second) }
 
-pub parts-causes : (c : Counter) → Causes (c .running) (getD (c .waiting) 0 0) (getD (c .waiting) 1 0) (c .queued) → causesFormed c ≡ true
+pub parts-causes : (c : Counter) → Causes (c .desk) → causesFormed c ≡ true
 unfolding causesFormed
-parts-causes c k = both (both (le-leb (c .running) 4 (k .small)) (k .queue)) (k .served)
+parts-causes c k = both (both (le-leb (c .desk .running) 4 (k .small)) (k .queue)) (k .served)
 
 pub formed-parts : (c : Counter) → wellFormed c ≡ true → Formed c
 unfolding wellFormed errorFormed

@@ -32,9 +32,7 @@ accepted-leaves c =
         acc = refl;
         out = refl;
         levels = refl;
-        running = refl;
-        waiting = refl;
-        queued = refl;
+        desk = refl;
         flags = λ n l e o. clear-other v ED n (lit< tt) l e ∙ set-other (c .flags) LOADED n o;
       };
     }
@@ -51,9 +49,7 @@ rejected-leaves c n =
         acc = refl;
         out = refl;
         levels = refl;
-        running = refl;
-        waiting = refl;
-        queued = refl;
+        desk = refl;
         flags = λ m l e o. set-other (c .flags) ED m e;
       };
     }
@@ -70,9 +66,7 @@ presets-leave c l =
         acc = refl;
         out = refl;
         levels = refl;
-        running = refl;
-        waiting = refl;
-        queued = refl;
+        desk = refl;
         flags = λ n b e o. clear-other (c .flags) ED n (lit< tt) b e;
       };
     }

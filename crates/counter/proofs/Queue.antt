@@ -7,13 +7,18 @@ use native.Mathlib.Omega.{arith}
 use borrow.Author.Tests.{ltb-true, leb-true, ne-eqb}
 use lib.Dec.{eqb, leb, ltb, lit≤}
 use lib.ListN.{length, getD, set, length-set}
-use Rattle.word.specs.Masks.{setBit}
+use Rattle.counter.specs.declared.desk.Desk.{Desk}
+use Rattle.counter.specs.declared.desk.Outcome.{Outcome}
+use Rattle.counter.specs.declared.desk.Outcome.the-variants.{Starts, Waits, Lost}
+use Rattle.counter.specs.declared.desk.Next.{Next}
+use Rattle.counter.specs.declared.desk.Next.the-variants.{Cause, Nothing}
 use Rattle.counter.specs.declared.state.Counter.{Counter}
-use Rattle.counter.specs.Parts.{UIL, withCauses, withFlags, on}
+use Rattle.counter.specs.Desk.{starting, waiting, posted, post, resting, advancing, finished, finish}
+use Rattle.counter.specs.Parts.{withDesk}
 use Rattle.counter.specs.Events.{from}
-use Rattle.counter.specs.Interrupts.{started, starting, waiting, resting, advancing, post, finish}
+use Rattle.counter.specs.Interrupts.{postedFlags, finishedFlags, interrupt, routineDone}
 use Rattle.counter.specs.WellFormed.{activeFormed, queueFormed}
-use Rattle.counter.proofs.Flags.{kept-set, kept-started, other}
+use Rattle.counter.proofs.Flags.{kept-posted, kept-finished}
 use Rattle.counter.proofs.Formed.{Causes, first, second, both}
 use Rattle.counter.proofs.Changes.{Well, well-flags}
 
@@ -40,7 +45,7 @@ queue-less a b (suc (suc (suc n))) z q =
     let never : false ≡ true = rw (ne-eqb m 0 (omega arith), ne-eqb m 1 (omega arith), ne-eqb m 2 (omega arith)) at q in
     absurd (false≢true never)
 
--- ---- the counter
+-- ---- the desk
 
 small : (n : ℕ) → from 1 4 n ≡ true → n ≤ 4
 small n h = leb-true n 4 (second (leb 1 n) (leb n 4) h)
@@ -48,14 +53,76 @@ small n h = leb-true n 4 (second (leb 1 n) (leb n 4) h)
 some : (n : ℕ) → from 1 4 n ≡ true → eqb n 0 ≡ false
 some n h = ne-eqb n 0 (λ e. omega (arith, e, leb-true 1 n (first (leb 1 n) (leb n 4) h)))
 
-module _ (c : Counter) (w : Well c) where
-  causes : Causes (c .running) (getD (c .waiting) 0 0) (getD (c .waiting) 1 0) (c .queued)
-  causes = w .formed .causes
+-- causes that stand well, and as many places as there are
+pub record Stands (d : Desk) : Type 0 where
+  pub causes : Causes d
+  pub places : length (d .waiting) ≡ 2
 
-  -- other causes, as many as there are places for
-  pub well-causes : (r : ℕ) (l : List ℕ) (n : ℕ) → Causes r (getD l 0 0) (getD l 1 0) n → length l ≡ 2 → Well (withCauses r l n c)
+module _ (d : Desk) (s : Stands d) where
+  k : Causes d
+  k = s .causes
+
+  stands-starting : (cause : ℕ) → from 1 4 cause ≡ true → Stands (starting cause d)
+  stands-starting cause h =
+      record { causes = record { small = small cause h; queue = k .queue; served = rw (some cause h) (or-true (eqb (d .queued) 0)) }; places = s .places }
+
+  stands-waiting : (cause : ℕ) → from 1 4 cause ≡ true → eqb (d .running) 0 ≡ false → ltb (d .queued) 2 ≡ true → Stands (waiting cause d)
+  stands-waiting cause h r q =
+      record {
+        causes = record {
+          small = k .small;
+          queue = queue-more (d .waiting) cause (d .queued) (s .places) h (ltb-true (d .queued) 2 q) (k .queue);
+          served = rw r (or-true (eqb (d .queued + 1) 0));
+        };
+        places = length-set (d .waiting) (d .queued) cause ∙ s .places;
+      }
+
+  stands-resting : eqb (d .queued) 0 ≡ true → Stands (resting d)
+  stands-resting z = record { causes = record { small = lit≤ tt; queue = k .queue; served = rw z }; places = s .places }
+
+  stands-advancing : eqb (d .queued) 0 ≡ false → Stands (advancing d)
+  stands-advancing z =
+      let a : ℕ = getD (d .waiting) 0 0 in
+      let less = queue-less a (getD (d .waiting) 1 0) (d .queued) z (k .queue) in
+      record {
+        causes = record { small = small a (less .1); queue = less .0; served = rw (some a (less .1)) (or-true (eqb (d .queued - 1) 0)) };
+        places = refl;
+      }
+
+  pub stands-post : (cause : ℕ) → from 1 4 cause ≡ true → Stands (post cause d .desk)
+  unfolding post
+  stands-post cause h = go (eqb (d .running) 0) (ltb (d .queued) 2) refl refl
+    where
+      go : (a b : Bool) → eqb (d .running) 0 ≡ a → ltb (d .queued) 2 ≡ b
+          → Stands (cond a (posted (starting cause d) Starts) (cond b (posted (waiting cause d) Waits) (posted d Lost)) .desk)
+      go true b p q = stands-starting cause h
+      go false true p q = stands-waiting cause h p q
+      go false false p q = s
+
+  pub stands-finish : Stands (finish d .desk)
+  unfolding finish
+  stands-finish = go (eqb (d .running) 0) (eqb (d .queued) 0) refl
+    where
+      go : (a b : Bool) → eqb (d .queued) 0 ≡ b
+          → Stands (cond a (finished d Nothing) (cond b (finished (resting d) Nothing) (finished (advancing d) (Cause (getD (d .waiting) 0 0)))) .desk)
+      go true b q = s
+      go false true q = stands-resting q
+      go false false q = stands-advancing q
+
+-- ---- the counter
+
+-- whichever way a test goes
+pub well-cond : (b : Bool) (c d : Counter) → (b ≡ true → Well c) → (b ≡ false → Well d) → Well (cond b c d)
+well-cond true c d p q = p refl
+well-cond false c d p q = q refl
+
+module _ (c : Counter) (w : Well c) where
+  desk : Stands (c .desk)
+  desk = record { causes = w .formed .causes; places = w .typed .waiting }
+
+  pub well-desk : (d : Desk) → Causes d → length (d .waiting) ≡ 2 → Well (withDesk d c)
   unfolding activeFormed
-  well-causes r l n k e =
+  well-desk d k e =
       let f = w .formed in
       let t = w .typed in
       record {
@@ -63,54 +130,18 @@ module _ (c : Counter) (w : Well c) where
         typed = record { staged = t .staged; active = t .active; acc = t .acc; waiting = e };
       }
 
-  well-resting : eqb (c .queued) 0 ≡ true → Well (resting c)
-  well-resting z =
-      well-causes 0 (c .waiting) (c .queued) (record { small = lit≤ tt; queue = causes .queue; served = rw z }) (w .typed .waiting)
+  pub well-interrupt : (cause : ℕ) → from 1 4 cause ≡ true → Well (interrupt cause c)
+  unfolding interrupt
+  well-interrupt cause h =
+      let d : Desk = post cause (c .desk) .desk in
+      let s : Stands d = stands-post (c .desk) desk cause h in
+      let o : Outcome = post cause (c .desk) .outcome in
+      well-flags (withDesk d c) (well-desk d (s .causes) (s .places)) (postedFlags o cause (c .flags)) (kept-posted o cause (c .flags))
 
-  well-waiting : (cause : ℕ) → from 1 4 cause ≡ true → eqb (c .running) 0 ≡ false → ltb (c .queued) 2 ≡ true → Well (waiting cause c)
-  well-waiting cause h r q =
-      well-causes (c .running) (set (c .waiting) (c .queued) cause) (c .queued + 1)
-      (record {
-        small = causes .small;
-        queue = queue-more (c .waiting) cause (c .queued) (w .typed .waiting) h (ltb-true (c .queued) 2 q) (causes .queue);
-        served = rw r (or-true (eqb (c .queued + 1) 0));
-      })
-      (length-set (c .waiting) (c .queued) cause ∙ w .typed .waiting)
-
--- with the flags of the cause that starts
-well-started : (c : Counter) (cause : ℕ) → Well c → Well (withFlags (started cause (c .flags)) c)
-well-started c cause w = well-flags c w (started cause (c .flags)) (kept-started cause (c .flags))
-
-well-starting : (c : Counter) (cause : ℕ) → Well c → from 1 4 cause ≡ true → Well (starting cause c)
-well-starting c cause w h =
-    well-causes (withFlags (started cause (c .flags)) c) (well-started c cause w) cause (c .waiting) (c .queued)
-    (record { small = small cause h; queue = w .formed .causes .queue; served = rw (some cause h) (or-true (eqb (c .queued) 0)) })
-    (w .typed .waiting)
-
-well-advancing : (c : Counter) → Well c → eqb (c .queued) 0 ≡ false → Well (advancing c)
-well-advancing c w z =
-    let a : ℕ = getD (c .waiting) 0 0 in
-    let less = queue-less a (getD (c .waiting) 1 0) (c .queued) z (w .formed .causes .queue) in
-    well-causes (withFlags (started a (c .flags)) c) (well-started c a w) a (getD (c .waiting) 1 0 ∷ 0 ∷ []) (c .queued - 1)
-    (record { small = small a (less .1); queue = less .0; served = rw (some a (less .1)) (or-true (eqb (c .queued - 1) 0)) })
-    refl
-
--- ---- posting and finishing
-
--- whichever way a test goes
-pub well-cond : (b : Bool) (c d : Counter) → (b ≡ true → Well c) → (b ≡ false → Well d) → Well (cond b c d)
-well-cond true c d p q = p refl
-well-cond false c d p q = q refl
-
-pub well-post : (c : Counter) (cause : ℕ) → Well c → from 1 4 cause ≡ true → Well (post cause c)
-unfolding post
-well-post c cause w h =
-    well-cond (eqb (c .running) 0) (starting cause c) (cond (ltb (c .queued) 2) (waiting cause c) (on UIL c)) (λ r. well-starting c cause w h)
-    (λ r. well-cond (ltb (c .queued) 2) (waiting cause c) (on UIL c) (λ q. well-waiting c w cause h r q)
-    (λ q. well-flags c w (setBit (c .flags) UIL) (kept-set (c .flags) UIL (other UIL tt refl refl))))
-
-pub well-finish : (c : Counter) → Well c → Well (finish c)
-unfolding finish
-well-finish c w =
-    well-cond (eqb (c .running) 0) c (cond (eqb (c .queued) 0) (resting c) (advancing c)) (λ r. w)
-    (λ r. well-cond (eqb (c .queued) 0) (resting c) (advancing c) (well-resting c w) (well-advancing c w))
+  pub well-routineDone : Well (routineDone c)
+  unfolding routineDone
+  well-routineDone =
+      let d : Desk = finish (c .desk) .desk in
+      let s : Stands d = stands-finish (c .desk) desk in
+      let n : Next = finish (c .desk) .next in
+      well-flags (withDesk d c) (well-desk d (s .causes) (s .places)) (finishedFlags n (c .flags)) (kept-finished n (c .flags))

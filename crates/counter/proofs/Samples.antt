@@ -19,14 +19,14 @@ use Rattle.counter.specs.declared.state.Sampled.{Sampled}
 use Rattle.counter.specs.declared.state.Count.{Count}
 use Rattle.counter.specs.declared.state.Count.the-variants.{None, Up, Down}
 use Rattle.counter.specs.Parts.{FE, UIE, lowPreset, highPreset, overflow, LOADED, flag, withAcc, withFlags, withLevels, upOnly, mode}
-use Rattle.counter.specs.Interrupts.{outputMask, presetWord, causeWord, masked, enabled, post, withOutputs, raise}
+use Rattle.counter.specs.Interrupts.{outputMask, presetWord, causeWord, masked, enabled, interrupt, withOutputs, raise}
 use Rattle.counter.specs.Sample.{counted, up, down, upOf, downOf, sampledAs, unmoved, countedBy, resets, counting, direction, sampled, sample}
 use Rattle.counter.specs.Events.{from, programWord}
 use Rattle.counter.proofs.Limits.{up-fits, down-fits}
 use Rattle.counter.proofs.Flags.{Kept, kept-refl, kept-upFlags, kept-downFlags}
 use Rattle.counter.proofs.Formed.{second}
 use Rattle.counter.proofs.Changes.{Well, well-out, well-acc, well-flags, well-levels}
-use Rattle.counter.proofs.Queue.{well-cond, well-post}
+use Rattle.counter.proofs.Queue.{well-cond, well-interrupt}
 
 -- ---- outputs stay below 2 ^ 12
 
@@ -69,8 +69,8 @@ pub well-raise : (c : Counter) (cause : ℕ) → Well c → Well (raise cause c)
 unfolding raise
 well-raise c cause w =
     let put : Well (withOutputs cause c) = well-out c w (causeWord cause (c .active .omb) (c .active .hpo) (c .active .lpo) (c .out)) (causeWord-lt cause (c .active .omb) (c .active .hpo) (c .active .lpo) (c .out) (w .formed .out)) in
-    well-cond (enabled (c .flags) cause) (post cause (withOutputs cause c)) (withOutputs cause c)
-    (λ e. well-post (withOutputs cause c) cause put (enabled-cause (c .flags) cause e))
+    well-cond (enabled (c .flags) cause) (interrupt cause (withOutputs cause c)) (withOutputs cause c)
+    (λ e. well-interrupt (withOutputs cause c) put cause (enabled-cause (c .flags) cause e))
     (λ e. put)
 
 -- ---- a count

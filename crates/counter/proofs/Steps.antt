@@ -1,7 +1,6 @@
 -- Each event keeps a well-formed state well formed, and fresh is well formed.
 use mathlib.Core.Path.{_≡_, refl}
 use mathlib.Core.Bool.{Bool, true, false, cond, false≢true}
-use mathlib.Core.List.{[], _∷_}
 use Prim.Native.Nat.{ℕ, _<_, _≤_, _^_}
 use native.Mathlib.Nat.{mod-lt, le-of-suc-le-suc}
 use native.Mathlib.Omega.{arith}
@@ -16,6 +15,7 @@ use Rattle.word.specs.TwosComplement.{unsigned}
 use Rattle.word.proofs.TwosComplement.{sfits-signed}
 use Rattle.counter.specs.declared.state.Settings.{Settings}
 use Rattle.counter.specs.declared.state.Counter.{Counter}
+use Rattle.counter.specs.Desk.{empty}
 use Rattle.counter.specs.Parts.{AS, SP, FE, flag, on, off, withStaged, withFlags, noSettings, freshSettings, fresh}
 use Rattle.counter.specs.Loading.{firstBroken, accepted, rejected, load}
 use Rattle.counter.specs.Interrupts.{quiet}
@@ -24,7 +24,7 @@ use Rattle.counter.specs.WellFormed.{SettingsTyped, Good, wellFormed, ca
 use Rattle.counter.proofs.Flags.{Other, other, kept-set, kept-clear, kept-quiet}
 use Rattle.counter.proofs.Legal.{flag-below}
 use Rattle.counter.proofs.Changes.{Well, good-well, well-good, well-staged, well-acc, well-out, well-flags}
-use Rattle.counter.proofs.Queue.{well-cond, well-causes, well-finish}
+use Rattle.counter.proofs.Queue.{well-cond, well-desk, well-routineDone}
 use Rattle.counter.proofs.Loads.{first-number, well-accepted, well-rejected, well-load, well-presetLoad}
 use Rattle.counter.proofs.Samples.{well-sample, programWord-lt}
 
@@ -93,7 +93,7 @@ well-deviceWrite c sub v w =
 well-emptied : (c : Counter) → Well c → Well (emptied c)
 unfolding queueFormed
 well-emptied c w =
-    well-causes (withFlags (quiet (c .flags)) c) (well-flags c w (quiet (c .flags)) (kept-quiet (c .flags))) 0 (0 ∷ 0 ∷ []) 0
+    well-desk (withFlags (quiet (c .flags)) c) (well-flags c w (quiet (c .flags)) (kept-quiet (c .flags))) empty
     (record { small = lit≤ tt; queue = refl; served = refl }) refl
 
 well-autoStart : (c : Counter) → Well c → Well (autoStart c)
@@ -124,7 +124,7 @@ well-apply c kind sub v w h l =
     (λ k. well-cond (eqb kind 4) _ _ (λ k. well-flagWrite c sub v w (flagged kind sub v (eqb-true kind 4 k) l))
     (λ k. well-cond (eqb kind 5) _ _ (λ k. well-acc c w v h)
     (λ k. well-cond (eqb kind 6) _ _ (λ k. well-presetLoad c w)
-    (λ k. well-cond (eqb kind 7) _ _ (λ k. well-finish c w)
+    (λ k. well-cond (eqb kind 7) _ _ (λ k. well-routineDone c w)
     (λ k. well-cond (eqb kind 8) _ _ (λ k. well-enterRun c w)
     (λ k. well-cond (eqb kind 9) _ _ (λ k. well-out c w (programWord (c .active .omb) (wordOf v) (c .out)) (programWord-lt (c .active .omb) (wordOf v) (c .out) (w .formed .out))) (λ k. w)))))))))
 

@@ -4,13 +4,13 @@ use mathlib.Core.List.{List, [], _∷_}
 use Prim.Native.Nat.{ℕ}
 use lib.Dec.{eqb}
 use lib.IntN.{ℤ, pos, negsuc}
-use lib.ListN.{getD}
 use Rattle.word.specs.TwosComplement.{eqZ}
 use Rattle.counter.specs.declared.state.Counter.{Counter}
 use Rattle.counter.specs.declared.state.Count.{Count}
 use Rattle.counter.specs.declared.state.Count.the-variants.{Up, Down}
-use Rattle.counter.specs.Parts.{UIE, UIL, FE, LPI, HPI, OF, MD, LOADED, lowPreset, highPreset, underflow, overflow, withActive, withAcc, withOut, withCauses, flag, on, fresh}
-use Rattle.counter.specs.Interrupts.{finish, raise}
+use Rattle.counter.specs.Desk.{deskOf, first, second}
+use Rattle.counter.specs.Parts.{UIE, UIL, FE, LPI, HPI, OF, MD, LOADED, lowPreset, highPreset, underflow, overflow, withActive, withAcc, withOut, withDesk, flag, on, fresh}
+use Rattle.counter.specs.Interrupts.{routineDone, raise}
 use Rattle.counter.specs.Sample.{countedBy, after}
 
 -- ---- what the rows start from
@@ -35,7 +35,7 @@ withMask out =
 
 -- FE, UIE, all masks and HPI at 1; running 2, waiting 1 and 4
 abbrev pub crowded : Counter
-crowded = withCauses 2 (1 ∷ 4 ∷ []) 2 (on FE (on UIE (on HPI fresh)))
+crowded = withDesk (deskOf 2 (1 ∷ 4 ∷ []) 2) (on FE (on UIE (on HPI fresh)))
 
 -- ---- tests
 
@@ -49,8 +49,8 @@ gives c way acc cause = eqZ (count way c .acc) acc && eqb (countedBy way c .caus
 
 -- running, and the waiting causes beside their number
 abbrev pub causesAre : Counter → ℕ → ℕ → ℕ → ℕ → Bool
-causesAre c running first second queued =
-    eqb (c .running) running && eqb (getD (c .waiting) 0 0) first && eqb (getD (c .waiting) 1 0) second && eqb (c .queued) queued
+causesAre c running one two queued =
+    eqb (c .desk .running) running && eqb (first (c .desk)) one && eqb (second (c .desk)) two && eqb (c .desk .queued) queued
 
 unfoldable pub bench : List Bool
 bench =
@@ -79,7 +79,7 @@ bench =
     -- l. running 2, waiting 1 and 4, cause 3: UIL, queue kept; done: 1 runs, LPI 1, HPI 0
     ∷ (flag (raise underflow crowded) UIL
     && causesAre (raise underflow crowded) 2 1 4 2
-    && causesAre (finish (raise underflow crowded)) 1 4 0 1
-    && flag (finish (raise underflow crowded)) LPI
-    && not (flag (finish (raise underflow crowded)) HPI))
+    && causesAre (routineDone (raise underflow crowded)) 1 4 0 1
+    && flag (routineDone (raise underflow crowded)) LPI
+    && not (flag (routineDone (raise underflow crowded)) HPI))
     ∷ []

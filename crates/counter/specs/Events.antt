@@ -1,6 +1,5 @@
 -- Document 01, "Events, 12 bytes, little-endian", on a decoded event: which events are legal, and the step of each kind.
 use mathlib.Core.Bool.{Bool, true, false, cond, not, _&&_, _||_}
-use mathlib.Core.List.{[], _∷_}
 use Prim.Native.Nat.{ℕ, _%_}
 use lib.Dec.{eqb, leb}
 use lib.IntN.{ℤ, pos, negsuc}
@@ -10,9 +9,10 @@ use Rattle.word.specs.Masks.{merge}
 use Rattle.word.specs.TwosComplement.{signed, unsigned, eqZ}
 use Rattle.counter.specs.declared.state.Settings.{Settings}
 use Rattle.counter.specs.declared.state.Counter.{Counter}
-use Rattle.counter.specs.Parts.{AS, SP, FE, withStaged, withAcc, withOut, withFlags, withCauses, flag, on, off}
+use Rattle.counter.specs.Desk.{empty}
+use Rattle.counter.specs.Parts.{AS, SP, FE, withStaged, withAcc, withOut, withFlags, withDesk, flag, on, off}
 use Rattle.counter.specs.Loading.{firstBroken, accepted, rejected, load, presetLoad}
-use Rattle.counter.specs.Interrupts.{outputMask, quiet, finish}
+use Rattle.counter.specs.Interrupts.{outputMask, quiet, routineDone}
 use Rattle.counter.specs.Sample.{sample}
 
 -- ---- legal events: kind, sub and value
@@ -126,7 +126,7 @@ flagWrite sub v c = cond (spRises sub v c) (load (on SP c)) (setTo sub v c)
 
 -- 8: LPI, HPI, UFI, OFI go to 0, running and waiting are emptied
 abbrev pub emptied : Counter → Counter
-emptied c = withCauses 0 (0 ∷ 0 ∷ []) 0 (withFlags (quiet (c .flags)) c)
+emptied c = withDesk empty (withFlags (quiet (c .flags)) c)
 
 -- a load, and FE 1 if accepted
 unfoldable pub autoStart : Counter → Counter
@@ -153,7 +153,7 @@ control kind sub v c =
     (cond (eqb kind 4) (flagWrite sub v c)
     (cond (eqb kind 5) (withAcc v c)
     (cond (eqb kind 6) (presetLoad c)
-    (cond (eqb kind 7) (finish c)
+    (cond (eqb kind 7) (routineDone c)
     (cond (eqb kind 8) (enterRun c)
     (cond (eqb kind 9) (outputWrite v c) c)))))))
 

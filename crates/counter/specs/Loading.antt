@@ -111,9 +111,7 @@ pub record Untouched (c d : Counter) : Type 0 where
   pub acc : d .acc ≡ c .acc
   pub out : d .out ≡ c .out
   pub levels : d .levels ≡ c .levels
-  pub running : d .running ≡ c .running
-  pub waiting : d .waiting ≡ c .waiting
-  pub queued : d .queued ≡ c .queued
+  pub desk : d .desk ≡ c .desk
   pub flags : (n : ℕ) → n < 32 → (n ≡ ED → ⊥) → (n ≡ LOADED → ⊥) → flag d n ≡ flag c n
 
 -- an accepted load of the settings s

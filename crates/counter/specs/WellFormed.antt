@@ -4,12 +4,13 @@ use mathlib.Core.Bool.{Bool, true, cond, not, _&&_, _||_, Bool·beq}
 use Prim.Native.Nat.{ℕ, _^_, _<_}
 use lib.Dec.{eqb, leb, ltb}
 use lib.IntN.{pos}
-use lib.ListN.{length, getD}
+use lib.ListN.{length}
 use mir.Syntax.{w16, w32}
 use mir.Val.{SFits}
 use Rattle.word.specs.TwosComplement.{eqZ}
 use Rattle.counter.specs.declared.state.Settings.{Settings}
 use Rattle.counter.specs.declared.state.Counter.{Counter}
+use Rattle.counter.specs.Desk.{first, second}
 use Rattle.counter.specs.Parts.{flag, ED, LOADED}
 use Rattle.counter.specs.Loading.{firstBroken}
 use Rattle.counter.specs.Events.{from}
@@ -40,9 +41,9 @@ queueFormed first second n =
 -- a first waiting cause only with one running
 unfoldable pub causesFormed : Counter → Bool
 causesFormed c =
-    leb (c .running) 4
-    && queueFormed (getD (c .waiting) 0 0) (getD (c .waiting) 1 0) (c .queued)
-    && (eqb (c .queued) 0 || not (eqb (c .running) 0))
+    leb (c .desk .running) 4
+    && queueFormed (first (c .desk)) (second (c .desk)) (c .desk .queued)
+    && (eqb (c .desk .queued) 0 || not (eqb (c .desk .running) 0))
 
 -- ED = 1 exactly if ER is not 0
 unfoldable pub errorFormed : Counter → Bool
@@ -73,7 +74,7 @@ pub record Typed (c : Counter) : Type 0 where
   pub staged : SettingsTyped (c .staged)
   pub active : SettingsTyped (c .active)
   pub acc : SFits w32 (c .acc)
-  pub waiting : length (c .waiting) ≡ 2
+  pub waiting : length (c .desk .waiting) ≡ 2
 
 -- a well-formed state
 pub record Good (c : Counter) : Type 0 where

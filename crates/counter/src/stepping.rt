@@ -1,5 +1,6 @@
 // The step of each kind of event, and the step.
 use super::causes;
+use super::desk;
 use super::flag;
 use super::legality;
 use super::loading;
@@ -174,12 +175,10 @@ fn with_acc(c: Counter, v: i32) -> Counter
 fn emptied(c: Counter) -> Counter
     ensures { λ r. ⌜ r ≡ emptied c ⌝ }
 {
-    let none = [0u8; 2];
+    let none = desk::empty();
     let mut d = c;
     d.flags = causes::quiet(c.flags);
-    d.running = 0;
-    d.waiting = none;
-    d.queued = 0;
+    d.desk = none;
     d
 }
 
@@ -237,7 +236,7 @@ fn control(c: Counter, kind: u8, sub: u8, v: i32) -> Counter
         4 => flag_write(c, sub, v),
         5 => with_acc(c, v),
         6 => loading::preset_load(c),
-        7 => causes::finish(c),
+        7 => causes::routine_done(c),
         8 => enter_run(c),
         9 => output_write(c, v),
         _ => c,

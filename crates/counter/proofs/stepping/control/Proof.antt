@@ -29,8 +29,8 @@ with-acc-requires c κs = search needs
 preset-load-requires : tie.Need-preset-load-requires
 preset-load-requires c κs = search needs
 
-finish-requires : tie.Need-finish-requires
-finish-requires c κs = search needs
+routine-done-requires : tie.Need-routine-done-requires
+routine-done-requires c κs = search needs
 
 enter-run-requires : tie.Need-enter-run-requires
 enter-run-requires c κs = search needs
@@ -66,7 +66,7 @@ returns-5 c = rw (c .before .match .keys5) (c .preset-load .ensures)
 
 returns-6 : tie.Need-returns-6
 unfolding control
-returns-6 c = rw (c .before .match .keys6) (c .finish .ensures)
+returns-6 c = rw (c .before .match .keys6) (c .routine-done .ensures)
 
 returns-7 : tie.Need-returns-7
 unfolding control
@@ -83,4 +83,4 @@ unfolding control
 returns-9 c = rw (ne-eqb _ 2 (c .match .rest .0 .0 .0 .0 .0 .0 .0 .1), ne-eqb _ 3 (c .match .rest .0 .0 .0 .0 .0 .0 .1), ne-eqb _ 4 (c .match .rest .0 .0 .0 .0 .0 .1), ne-eqb _ 5 (c .match .rest .0 .0 .0 .0 .1), ne-eqb _ 6 (c .match .rest .0 .0 .0 .1), ne-eqb _ 7 (c .match .rest .0 .0 .1), ne-eqb _ 8 (c .match .rest .0 .1), ne-eqb _ 9 (c .match .rest .1))
 
 pub control-spec : {M : Type 1} → statement M
-control-spec = tie.close (tie.spec staged-write-requires device-write-requires flag-write-requires with-acc-requires preset-load-requires finish-requires enter-run-requires output-write-requires returns returns-2 returns-3 returns-4 returns-5 returns-6 returns-7 returns-8 returns-9)
+control-spec = tie.close (tie.spec staged-write-requires device-write-requires flag-write-requires with-acc-requires preset-load-requires routine-done-requires enter-run-requires output-write-requires returns returns-2 returns-3 returns-4 returns-5 returns-6 returns-7 returns-8 returns-9)
