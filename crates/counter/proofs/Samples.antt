@@ -18,9 +18,9 @@ use Rattle.counter.specs.declared.state.Counted.{Counted}
 use Rattle.counter.specs.declared.state.Sampled.{Sampled}
 use Rattle.counter.specs.declared.state.Count.{Count}
 use Rattle.counter.specs.declared.state.Count.the-variants.{None, Up, Down}
-use Rattle.counter.specs.Parts.{FE, UIE, lowPreset, highPreset, overflow, LOADED, flag, withAcc, withFlags, withLevels, upOnly, mode}
+use Rattle.counter.specs.Parts.{FE, UIE, lowPreset, highPreset, overflow, withAcc, withFlags, withLevels, upOnly, mode}
 use Rattle.counter.specs.Interrupts.{outputMask, presetWord, causeWord, masked, enabled, interrupt, withOutputs, raise}
-use Rattle.counter.specs.Sample.{counted, up, down, upOf, downOf, sampledAs, unmoved, countedBy, resets, counting, direction, sampled, sample}
+use Rattle.counter.specs.Sample.{counted, up, down, upOf, downOf, sampledAs, unmoved, countedBy, resets, count, sampled, sample}
 use Rattle.counter.specs.Events.{from, programWord}
 use Rattle.counter.proofs.Limits.{up-fits, down-fits}
 use Rattle.counter.proofs.Flags.{Kept, kept-refl, kept-upFlags, kept-downFlags}
@@ -127,11 +127,8 @@ module _ (c : Counter) (w : Well c) where
   moved-sampled : (new : ℕ) → Moved c (sampled new c)
   unfolding sampled
   moved-sampled new =
-      let m : ℕ = mode c in
-      let way : Count = direction m (c .levels) new in
-      let counts : Moved c (cond (counting m (c .flags) new) (countedBy way c) (unmoved c)) = moved-cond (counting m (c .flags) new) c (countedBy way c) (unmoved c) (moved-countedBy way) still in
       let reset : Moved c (sampledAs (pos 0) (c .flags) 0) = record { acc = record { sfits = lit< tt }; flags = kept-refl (c .flags) } in
-      moved-cond (flag c LOADED) c _ (unmoved c) (moved-cond (resets m (c .levels) new) c _ _ reset counts) still
+      moved-cond (resets new c) c (sampledAs (pos 0) (c .flags) 0) (countedBy (count new c) c) reset (moved-countedBy (count new c))
 
   -- ---- the sample
 

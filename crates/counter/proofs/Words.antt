@@ -15,9 +15,9 @@ use Rattle.counter.specs.declared.state.Counter.{Counter}
 use Rattle.counter.specs.declared.state.Sampled.{Sampled}
 use Rattle.counter.specs.declared.state.Count.{Count}
 use Rattle.counter.specs.declared.state.Count.the-variants.{None, Up, Down}
-use Rattle.counter.specs.Parts.{lowPreset, highPreset, withStaged, withAcc, withFlags, withLevels, mode}
+use Rattle.counter.specs.Parts.{lowPreset, highPreset, withStaged, withAcc, withFlags, withLevels}
 use Rattle.counter.specs.Interrupts.{outputMask, presetWord, causeWord, enabled, interrupt, withOutputs, raise}
-use Rattle.counter.specs.Sample.{countedBy, direction, sampled, after, sample}
+use Rattle.counter.specs.Sample.{countedBy, resets, mayCount, count, sampled, after, sample}
 use Rattle.counter.specs.Events.{programWord, outputWrite}
 use Rattle.counter.proofs.Samples.{causeWord-lt, programWord-lt}
 
@@ -99,8 +99,8 @@ module _ (s : Settings) where
   countedBy-staged Down c = refl
 
   sampled-staged : (new : ℕ) (c : Counter) → sampled new (withStaged s c) ≡ sampled new c
-  unfolding sampled
-  sampled-staged new c = rw (countedBy-staged (direction (mode c) (c .levels) new) c)
+  unfolding sampled count mayCount resets
+  sampled-staged new c = rw (countedBy-staged (count new c) c)
 
   -- staged settings, OMB among them, have no say in an input sample or in the program's word
   pub sample-staged : (new : ℕ) (c : Counter) → sample new (withStaged s c) ≡ withStaged s (sample new c)

@@ -32,8 +32,7 @@ pub fn cu(c: Counter) -> bool
 fn two_way(c: Counter) -> bool
     ensures { λ r. ⌜ r ≡ twoWay c ⌝ }
 {
-    let a = c.active;
-    bits::has(c.flags, flag::LOADED) & !rules::up_only(rules::mode_of(a.mode))
+    bits::has(c.flags, flag::LOADED) & !rules::up_only(rules::mode(c))
 }
 
 pub fn cd(c: Counter) -> bool

@@ -1,7 +1,8 @@
 // Loading settings: the rules in their order.
+use super::state::Counter;
 use super::state::Settings;
 ghost use mathlib.Core.Path.{_≡_};
-ghost use Rattle.counter.specs.Parts.{modeOf, upOnly};
+ghost use Rattle.counter.specs.Parts.{modeOf, mode, upOnly};
 ghost use Rattle.counter.specs.Loading.{rule1, rule3, rule4, rule5, presetBroken, firstBroken};
 
 // MOD as a number, 8 for every value that is no mode.
@@ -12,6 +13,14 @@ pub fn mode_of(mode: i16) -> u8
         0..=7 => mode as u8,
         _ => 8,
     }
+}
+
+// The active mode.
+pub fn mode(c: Counter) -> u8
+    ensures { λ r. ⌜ r ≡ mode c ⌝ }
+{
+    let a = c.active;
+    mode_of(a.mode)
 }
 
 // Modes 0 and 1 count up only.
