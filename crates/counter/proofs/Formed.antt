@@ -8,6 +8,7 @@ use lib.ListN.{getD}
 use Rattle.counter.specs.declared.desk.Desk.{Desk}
 use Rattle.counter.specs.declared.state.Counter.{Counter}
 use Rattle.counter.specs.Parts.{flag, ED}
+use Rattle.counter.specs.Loading.{ruleCount}
 use Rattle.counter.specs.WellFormed.{activeFormed, queueFormed, causesFormed, errorFormed, wellFormed}
 
 -- ---- tests joined by `&&`
@@ -46,7 +47,7 @@ pub record Formed (c : Counter) : Type 0 where
   pub out : c .out < 2 ^ 12
   pub levels : c .levels ≤ 15
   pub causes : Causes (c .desk)
-  pub er : c .er ≤ 5
+  pub er : c .er ≤ ruleCount
   pub ed : flag c ED ≡ not (eqb (c .er) 0)
   pub active : activeFormed c ≡ true
 
@@ -67,7 +68,7 @@ formed-parts c h =
       out = ltb-true (c .out) (2 ^ 12) (search (first, second) depth 7);
       levels = leb-true (c .levels) 15 (search (first, second) depth 7);
       causes = causes-parts c (search (first, second) depth 7);
-      er = leb-true (c .er) 5 (search (first, second) depth 7);
+      er = leb-true (c .er) ruleCount (search (first, second) depth 7);
       ed = same (flag c ED) (not (eqb (c .er) 0)) (search (first, second) depth 7);
       active = search (first, second) depth 7;
     }
@@ -76,5 +77,5 @@ pub parts-formed : (c : Counter) → Formed c → wellFormed c ≡ true
 unfolding wellFormed errorFormed
 parts-formed c f =
     both (both (both (both (both (lt-ltb (c .flags) (2 ^ 20) (f .flags)) (lt-ltb (c .out) (2 ^ 12) (f .out))) (le-leb (c .levels) 15 (f .levels))) (parts-causes c (f .causes)))
-    (both (le-leb (c .er) 5 (f .er)) (rw (f .ed) (same-refl (not (eqb (c .er) 0))))))
+    (both (le-leb (c .er) ruleCount (f .er)) (rw (f .ed) (same-refl (not (eqb (c .er) 0))))))
     (f .active)

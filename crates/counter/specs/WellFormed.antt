@@ -12,7 +12,7 @@ use Rattle.counter.specs.declared.state.Settings.{Settings}
 use Rattle.counter.specs.declared.state.Counter.{Counter}
 use Rattle.counter.specs.Desk.{first, second}
 use Rattle.counter.specs.Parts.{flag, ED, LOADED}
-use Rattle.counter.specs.Loading.{firstBroken}
+use Rattle.counter.specs.Loading.{ruleCount, firstBroken}
 use Rattle.counter.specs.Events.{from}
 
 -- every setting is 0
@@ -47,7 +47,7 @@ causesFormed c =
 
 -- ED = 1 exactly if ER is not 0
 unfoldable pub errorFormed : Counter → Bool
-errorFormed c = leb (c .er) 5 && Bool·beq (flag c ED) (not (eqb (c .er) 0))
+errorFormed c = leb (c .er) ruleCount && Bool·beq (flag c ED) (not (eqb (c .er) 0))
 
 unfoldable pub wellFormed : Counter → Bool
 wellFormed c =
