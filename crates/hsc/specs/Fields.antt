@@ -1,9 +1,8 @@
 -- Document 01, "Reading returns the state and the bits shown but not stored": the 32 numbers of a reading, in their order.
 use mathlib.Core.Bool.{Bool, cond}
 use mathlib.Core.List.{List, [], _∷_, _++_}
-use Prim.Native.Nat.{ℕ, _+_}
 use lib.IntN.{ℤ, pos}
-use lib.ListN.{length, getD, take, drop}
+use lib.ListN.{getD}
 use mir.Syntax.{w32}
 use Rattle.word.specs.TwosComplement.{signed}
 use Rattle.counter.specs.declared.state.Settings.{Settings}
@@ -41,7 +40,3 @@ unfoldable pub fieldsOf : Counter → List ℤ
 fieldsOf c = settingsFields (c .staged) ++ settingsFields (c .active) ++ storedFields c ++ shownFields c
 
 -- ---- filling
-
--- numbers with a row over those from place at
-unfoldable pub over : List ℤ → ℕ → List ℤ → List ℤ
-over fields at row = take at fields ++ row ++ drop (at + length row) fields

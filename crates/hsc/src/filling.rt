@@ -7,7 +7,8 @@ ghost use mathlib.Core.Path.{_≡_};
 ghost use Prim.Native.Nat.{_+_, _≤_};
 ghost use lib.IntN.{pos};
 ghost use lib.ListN.{length};
-ghost use Rattle.hsc.specs.Fields.{over, settingsFields, storedFields, shownFields, fieldsOf};
+ghost use Rattle.word.specs.Part.{put};
+ghost use Rattle.hsc.specs.Fields.{settingsFields, storedFields, shownFields, fieldsOf};
 
 // In the layout's order.
 fn settings_row(s: Settings) -> [i32; 9]
@@ -67,7 +68,7 @@ fn shown_row(c: Counter) -> [i32; 6]
 // The row over the numbers from place at.
 fn copy_row(fields: &mut [i32], at: usize, row: &[i32])
     requires { ⌜ at + length (now row) ≤ length (now fields) ⌝ }
-    ensures { λ _. ⌜ now (fields .exit) ≡ over (now (fields .entry)) at (now (row .entry)) ⌝ }
+    ensures { λ _. ⌜ now (fields .exit) ≡ put (now (fields .entry)) at (now (row .entry)) ⌝ }
 {
     let mut i = 0;
     while i < row.len() {

@@ -12,18 +12,18 @@ use Rattle.word.specs.Part.{Bytes, part, put}
 use Rattle.word.specs.LittleEndian.{toBytes, numberAt}
 use Rattle.word.specs.TwosComplement.{signed, unsigned}
 use Rattle.word.specs.Layouts.{total, pack, Held, none, more}
-use Rattle.word.proofs.Part.{length-part, bytes-part, length-put, part-whole, put-part, put-whole, put-inside}
-use Rattle.word.proofs.LittleEndian.{length-toBytes, numberAt-lt}
-use Rattle.word.proofs.TwosComplement.{signed-unsigned, unsigned-signed, fits-unsigned}
-use Rattle.word.proofs.Layouts.{length-pack, unpack-pack, pack-set}
+use Rattle.word.proofs.Part.{length-part, bytes-part, length-put, part-whole, put-part, put-whole}
+use Rattle.word.proofs.LittleEndian.{length-toBytes, numberAt-lt, set-byte}
+use Rattle.word.proofs.TwosComplement.{signed-unsigned, unsigned-signed, fits-unsigned, handed, bits-back}
+use Rattle.word.proofs.Layouts.{length-pack, unpack-pack, pack-set, numbersAt, unpack-from}
+use Rattle.word.proofs.Put.{put-inside}
+use Rattle.word.proofs.Writes.{then, end, wrote}
 use Rattle.counter.specs.declared.state.Counter.{Counter}
 use Rattle.counter.specs.Parts.{withAcc, withFlags, withLevels}
 use Rattle.counter.specs.WellFormed.{Good}
 use Rattle.snapshot.specs.Widths.{snapshotSize, movingSize, movingLayout, snapshotLayout}
 use Rattle.snapshot.specs.Snapshots.{rowOf, encode, decode}
 use Rattle.snapshot.specs.Split.{movingBytes, splitState, Holds}
-use Rattle.snapshot.proofs.Rows.{numbersAt, unpack-from}
-use Rattle.snapshot.proofs.Writes.{set-byte, handed, bits-back, then, end, wrote}
 use Rattle.snapshot.proofs.Rules.{bounded}
 use Rattle.snapshot.proofs.RoundTrip.{length-encode, decode-encode, encode-decode}
 

@@ -1,6 +1,4 @@
 -- The laws of the definitions in `specs/`, for callers to cite.
-pub mod Rows
-pub mod Writes
 pub mod InPlace
 pub mod Offsets
 pub mod Causes

@@ -10,11 +10,11 @@ use Rattle.word.specs.Part.{part}
 use Rattle.word.specs.LittleEndian.{numberAt}
 use Rattle.word.specs.TwosComplement.{signed}
 use Rattle.word.specs.Layouts.{total}
+use Rattle.word.proofs.Layouts.{numbersAt, unpack-from, unpack-here, numbers-part}
 use Rattle.snapshot.specs.Widths.{snapshotSize, eventSize, settingsLayout, otherLayout, snapshotLayout, eventLayout, spans}
 use Rattle.snapshot.specs.Snapshots.{stateOf, stateAt, decode}
 use Rattle.snapshot.specs.declared.event.Event.{Event}
 use Rattle.snapshot.specs.EventBytes.{eventOf, reservedZero}
-use Rattle.snapshot.proofs.Rows.{numbersAt, unpack-from, unpack-here, numbers-part}
 
 -- 0-25 staged; 26-51 active; 52-55 ACC; 56-57 outputs; 58-59 ER; 60-63 flags; 64 levels; 65 running; 66, 67 waiting.
 -- Kind at byte 0, sub at 1, zero at 2-3, value at 4-7, stamp at 8-11.

@@ -13,14 +13,13 @@ use Rattle.word.specs.LittleEndian.{numberAt}
 use Rattle.word.specs.Layouts.{total, pack, Held, none, more}
 use Rattle.word.proofs.LittleEndian.{numberAt-lt}
 use Rattle.word.proofs.TwosComplement.{signed-unsigned, unsigned-signed, sfits-signed, fits-unsigned}
-use Rattle.word.proofs.Layouts.{length-pack, unpack-pack, pack-unpack}
+use Rattle.word.proofs.Layouts.{length-pack, unpack-pack, pack-unpack, numbersAt, unpack-from, bytes-pack, held-append}
 use Rattle.counter.specs.declared.state.Settings.{Settings}
 use Rattle.counter.specs.declared.state.Counter.{Counter}
 use Rattle.counter.specs.WellFormed.{wellFormed, SettingsTyped, Typed, Good}
 use Rattle.snapshot.specs.Widths.{snapshotSize, settingsSize, settingsLayout, otherLayout, snapshotLayout}
 use Rattle.snapshot.specs.Snapshots.{settingsRow, otherRow, rowOf, encode, settingsOf, stateOf, decode, settingsAt, stateAt}
 use Rattle.snapshot.specs.FormedBytes.{formed}
-use Rattle.snapshot.proofs.Rows.{numbersAt, unpack-from, bytes-pack, held-append}
 use Rattle.snapshot.proofs.Offsets.{decode-places}
 use Rattle.snapshot.proofs.Rules.{Bounded, bounded, formed-decode}
 

@@ -11,7 +11,8 @@ use lib.ListN.{length}
 use Rattle.word.specs.Part.{part, put}
 use Rattle.replay.specs.Image.{Shape, snapshots, event, snapshot, withSnapshot, changed, Valid}
 use Rattle.replay.specs.Replay.{run, replayOn, replayed}
-use Rattle.replay.specs.Mend.{sameBytes, settled, outcome, mendOn, mend}
+use Rattle.word.specs.Same.{sameBytes}
+use Rattle.replay.specs.Mend.{settled, outcome, mendOn, mend}
 use Rattle.replay.proofs.Image.{spacing-within}
 use Rattle.replay.proofs.Run.{run-suc, run-add, run-moved, run-withSnapshot}
 use Rattle.replay.proofs.Loops.{replay-start, replayOn-next, mendOn-stop, mendOn-next, mend-start}

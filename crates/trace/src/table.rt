@@ -1,6 +1,6 @@
 // A snapshot of the table, written from a state.
-use replay::bytes::copy_over;
 use snapshot::in_place::write_over;
+use word::parts::copy_over;
 ghost use mathlib.Core.Path.{_≡_};
 ghost use Prim.Native.Nat.{_+_, _≤_};
 ghost use lib.ListN.{length};

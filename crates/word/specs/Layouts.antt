@@ -1,8 +1,6 @@
 -- A layout is a list of widths in bytes; a row of numbers is laid out by it, one number after the other.
-use mathlib.Core.Bool.{Bool, true, _&&_}
 use mathlib.Core.List.{List, [], _∷_, _++_}
 use Prim.Native.Nat.{ℕ, _+_, _^_, _<_}
-use lib.Dec.{leb}
 use lib.ListN.{take, drop}
 use Rattle.word.specs.LittleEndian.{toBytes, ofBytes}
 
@@ -10,11 +8,6 @@ use Rattle.word.specs.LittleEndian.{toBytes, ofBytes}
 unfoldable pub total : List ℕ → ℕ
 total [] = 0
 total (k ∷ ks) = k + total ks
-
--- whether every width is 4 at most
-unfoldable pub narrow : List ℕ → Bool
-narrow [] = true
-narrow (k ∷ ks) = leb k 4 && narrow ks
 
 -- the bytes of a row
 unfoldable pub pack : List ℕ → List ℕ → List ℕ

@@ -2,9 +2,8 @@
 use borrow.Author.Needs.{needs}
 use mathlib.Core.List.{[], _∷_}
 use mir.Syntax.{w32}
-use Rattle.word.proofs.TwosComplement.{signed-unsigned}
+use Rattle.word.proofs.TwosComplement.{signed-unsigned, signed-read}
 use Rattle.counter.proofs.Told.{counter-told}
-use Rattle.snapshot.proofs.Rows.{signed-told}
 use Rattle.hsc.proofs.Widened.{short-pos}
 use Rattle.hsc.proofs.filling.stored_row.Statement.{statement}
 use Rattle.hsc.proofs.filling.stored_row.Tie as tie
@@ -49,11 +48,11 @@ returns c =
     λ i. signed-unsigned (typed .acc) i
     ∷ short-pos (told .1 .1 .1 .0 .1) i
     ∷ short-pos (told .1 .1 .1 .1 .0 .1) i
-    ∷ signed-told w32 (record { sfits = flags .i32-of .ok }) (flags .i32-of .ensures) i
-    ∷ signed-told w32 (record { sfits = levels .wide .ok }) (levels .wide .ensures) i
-    ∷ signed-told w32 (record { sfits = running .wide2 .ok }) (running .wide2 .ensures) i
-    ∷ signed-told w32 (record { sfits = first .wide3 .ok }) (first .wide3 .ensures) i
-    ∷ signed-told w32 (record { sfits = second .wide4 .ok }) (second .wide4 .ensures) i
+    ∷ signed-read w32 (record { sfits = flags .i32-of .ok }) (flags .i32-of .ensures) i
+    ∷ signed-read w32 (record { sfits = levels .wide .ok }) (levels .wide .ensures) i
+    ∷ signed-read w32 (record { sfits = running .wide2 .ok }) (running .wide2 .ensures) i
+    ∷ signed-read w32 (record { sfits = first .wide3 .ok }) (first .wide3 .ensures) i
+    ∷ signed-read w32 (record { sfits = second .wide4 .ok }) (second .wide4 .ensures) i
     ∷ []
 
 pub stored-row-spec : {M : Type 1} → statement M

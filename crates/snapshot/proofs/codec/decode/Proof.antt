@@ -5,9 +5,10 @@ use mathlib.Core.List.{[], _∷_}
 use native.Mathlib.Omega.{arith}
 use denote.Ref.{now}
 use mir.Syntax.{w32}
+use Rattle.word.proofs.LittleEndian.{byte-at}
+use Rattle.word.proofs.TwosComplement.{signed-read}
 use Rattle.snapshot.specs.Widths.{snapshotSize}
 use Rattle.snapshot.specs.Snapshots.{queuedOf}
-use Rattle.snapshot.proofs.Rows.{signed-told, byte-at}
 use Rattle.snapshot.proofs.Offsets.{decode-part}
 use Rattle.snapshot.proofs.codec.decode.Statement.{statement}
 use Rattle.snapshot.proofs.codec.decode.Tie as tie
@@ -88,7 +89,7 @@ returns c =
     (λ i. record {
       staged = staged .read-settings .ensures i;
       active = active .read-settings2 .ensures i;
-      acc = signed-told w32 (record { sfits = acc .read-i32 .ok }) (acc .read-i32 .ensures) i;
+      acc = signed-read w32 (record { sfits = acc .read-i32 .ok }) (acc .read-i32 .ensures) i;
       out = out .read-u16 .ensures i;
       er = er .read-u162 .ensures i;
       flags = flags .read-u32 .ensures i;

@@ -9,12 +9,13 @@ use denote.Ref.{now}
 use mir.Syntax.{w32}
 use Rattle.word.specs.Part.{put}
 use Rattle.word.specs.Layouts.{total, pack}
+use Rattle.word.proofs.TwosComplement.{handed, bits-back}
+use Rattle.word.proofs.Writes.{put-rows}
 use Rattle.counter.specs.declared.state.Counter.{Counter}
 use Rattle.counter.specs.WellFormed.{Typed}
 use Rattle.counter.proofs.Told.{counter-told}
 use Rattle.snapshot.specs.Widths.{settingsLayout, snapshotLayout}
 use Rattle.snapshot.specs.Snapshots.{settingsRow, encode}
-use Rattle.snapshot.proofs.Writes.{handed, bits-back, put-rows}
 use Rattle.snapshot.proofs.codec.encode.Statement.{statement}
 use Rattle.snapshot.proofs.codec.encode.Tie as tie
 

@@ -7,10 +7,10 @@ use native.Mathlib.Omega.{arith}
 use lib.Dec.{ltb, leb}
 use denote.Ref.{now}
 use Rattle.word.specs.LittleEndian.{numberAt}
+use Rattle.word.proofs.LittleEndian.{byte-at}
 use Rattle.snapshot.specs.Widths.{snapshotSize}
 use Rattle.snapshot.specs.Snapshots.{settingsAt}
 use Rattle.snapshot.specs.FormedBytes.{causesStand, errorStands, activeStands}
-use Rattle.snapshot.proofs.Rows.{byte-at}
 use Rattle.snapshot.proofs.Rules.{formed-part}
 use Rattle.snapshot.proofs.form.formed.Statement.{statement}
 use Rattle.snapshot.proofs.form.formed.Tie as tie

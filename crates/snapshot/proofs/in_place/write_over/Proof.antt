@@ -7,8 +7,7 @@ use lib.ListN.{getD, length-set}
 use denote.Ref.{now}
 use Rattle.word.specs.Part.{put}
 use Rattle.word.specs.LittleEndian.{toBytes}
-use Rattle.word.proofs.LittleEndian.{numberAt-one}
-use Rattle.snapshot.proofs.Writes.{set-byte}
+use Rattle.word.proofs.LittleEndian.{numberAt-one, set-byte}
 use Rattle.snapshot.proofs.InPlace.{over-image}
 use Rattle.snapshot.proofs.in_place.write_over.Statement.{statement}
 use Rattle.snapshot.proofs.in_place.write_over.Tie as tie

@@ -9,12 +9,13 @@ use denote.Ref.{now}
 use mir.Syntax.{w16, w32}
 use Rattle.word.specs.Part.{put}
 use Rattle.word.specs.Layouts.{total, pack}
+use Rattle.word.proofs.TwosComplement.{handed, bits-back}
+use Rattle.word.proofs.Writes.{put-rows}
 use Rattle.counter.specs.declared.state.Settings.{Settings}
 use Rattle.counter.specs.WellFormed.{SettingsTyped}
 use Rattle.counter.proofs.Told.{settings-told}
 use Rattle.snapshot.specs.Widths.{settingsLayout}
 use Rattle.snapshot.specs.Snapshots.{settingsRow}
-use Rattle.snapshot.proofs.Writes.{handed, bits-back, put-rows}
 use Rattle.snapshot.proofs.settings.write_settings.Statement.{statement}
 use Rattle.snapshot.proofs.settings.write_settings.Tie as tie
 

@@ -7,7 +7,8 @@ use native.Mathlib.Omega.{arith}
 use lib.ListN.{length}
 use denote.Ref.{now}
 use Rattle.word.specs.Part.{part, put}
-use Rattle.word.proofs.Part.{part-put, put-again}
+use Rattle.word.proofs.Part.{part-put}
+use Rattle.word.proofs.Put.{put-again}
 use Rattle.snapshot.specs.Widths.{snapshotSize}
 use Rattle.snapshot.specs.Snapshots.{encode}
 use Rattle.snapshot.specs.Split.{splitState}

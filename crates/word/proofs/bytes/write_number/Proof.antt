@@ -8,7 +8,7 @@ use native.Mathlib.Omega.{arith}
 use lib.ListN.{length, set, length-set}
 use Rattle.word.specs.Part.{put}
 use Rattle.word.specs.LittleEndian.{toBytes}
-use Rattle.word.proofs.Part.{put-put, put-nil, set-put}
+use Rattle.word.proofs.Put.{put-put, put-nil, set-put}
 use Rattle.word.proofs.bytes.write_number.Statement.{statement}
 use Rattle.word.proofs.bytes.write_number.Tie as tie
 

@@ -1,9 +1,9 @@
-// A snapshot's bytes: compared with other bytes, and written over a part of an image.
+// Parts of a slice: compared with other bytes, and copied over.
 ghost use mathlib.Core.Path.{_≡_};
 ghost use Prim.Native.Nat.{_+_, _≤_};
 ghost use lib.ListN.{length};
 ghost use Rattle.word.specs.Part.{put};
-ghost use Rattle.replay.specs.Mend.{sameBytes};
+ghost use Rattle.word.specs.Same.{sameBytes};
 
 // Whether a and b hold the same bytes. It looks at each, so that the compiler compares many at once.
 pub fn same(a: &[u8], b: &[u8]) -> bool
@@ -21,7 +21,7 @@ pub fn same(a: &[u8], b: &[u8]) -> bool
     all
 }
 
-// The bytes of src over those of dst from place at.
+// The bytes of src over those of dst from byte at.
 pub fn copy_over(dst: &mut [u8], at: usize, src: &[u8])
     requires { ⌜ at + length (now src) ≤ length (now dst) ⌝ }
     ensures { λ _. ⌜ now (dst .exit) ≡ put (now (dst .entry)) at (now (src .entry)) ⌝ }

@@ -1,4 +1,4 @@
--- `replay::bytes::same` meets its contract. The invariant: what `all` says of the bytes passed, and the comparison of those left, are
+-- `word::parts::same` meets its contract. The invariant: what `all` says of the bytes passed, and the comparison of those left, are
 -- together the comparison of the rows. The measure is what is left of `a`.
 use mathlib.Core.Path.{_≡_, refl, sym, ap, _∙_}
 use mathlib.Core.Bool.{Bool, _&&_, and-assoc, and-true}
@@ -10,10 +10,10 @@ use native.Mathlib.Omega.{arith}
 use lib.Dec.{eqb}
 use lib.ListN.{length, getD, drop, drop-of-length-le}
 use lib.Seq.{drop-cons}
-use Rattle.replay.specs.Mend.{sameBytes}
-use Rattle.replay.proofs.Mend.{sameBytes-other}
-use Rattle.replay.proofs.bytes.same.Statement.{statement}
-use Rattle.replay.proofs.bytes.same.Tie as tie
+use Rattle.word.specs.Same.{sameBytes}
+use Rattle.word.proofs.Same.{sameBytes-other}
+use Rattle.word.proofs.parts.same.Statement.{statement}
+use Rattle.word.proofs.parts.same.Tie as tie
 
 abbrev Inv-loop : tie.InvT-loop
 Inv-loop a b all₀ i₀ all i = (i ≤ length a) × (all && sameBytes (drop i a) (drop i b) ≡ sameBytes a b)

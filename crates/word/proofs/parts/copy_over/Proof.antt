@@ -1,4 +1,4 @@
--- `replay::bytes::copy_over` meets its contract. The invariant: the first i bytes of `src` are written, and `dst` is as long as it was.
+-- `word::parts::copy_over` meets its contract. The invariant: the first i bytes of `src` are written, and `dst` is as long as it was.
 -- The measure is what is left of `src`.
 use mathlib.Core.Path.{_≡_, refl, sym, ap, _∙_}
 use Prim.Native.Nat.{ℕ, _+_, _≤_, _-_, zero-le}
@@ -7,11 +7,10 @@ use native.Mathlib.Omega.{arith}
 use mathlib.Core.List.{List}
 use lib.ListN.{length, take, getD, set, length-set}
 use lib.Seq.{take-all}
 use Rattle.word.specs.Part.{put}
-use Rattle.word.proofs.Part.{put-nil}
-use Rattle.replay.proofs.Lists.{put-more}
-use Rattle.replay.proofs.bytes.copy_over.Statement.{statement}
-use Rattle.replay.proofs.bytes.copy_over.Tie as tie
+use Rattle.word.proofs.Put.{put-nil, put-more}
+use Rattle.word.proofs.parts.copy_over.Statement.{statement}
+use Rattle.word.proofs.parts.copy_over.Tie as tie
 
 abbrev Inv-loop : tie.InvT-loop
 Inv-loop dst₀ at src i₀ dst i = (i ≤ length src) × (dst ≡ put dst₀ at (take i src)) × (length dst ≡ length dst₀)
@@ -46,7 +45,7 @@ loop-again c =
     let i = at-loop .loop .i in (
       search needs,
       ap (λ (l : List ℕ). set l (args .at + i) (getD src i 0)) (at-loop .loop .inv .1)
-          ∙ put-more dst (args .at) src i (c .before .loop-test .taken) (at-loop .before .pre),
+          ∙ put-more dst (args .at) src i 0 (c .before .loop-test .taken) (at-loop .before .pre),
       simp length-set (at-loop .loop .inv .2),
     )
 

@@ -1,41 +1,21 @@
 -- Writes by a layout: numbers written side by side in the layout's order are one row, and rows written side by side are one row.
 use mathlib.Core.Path.{_≡_, refl, sym, ap, _∙_}
 use mathlib.Core.List.{List, [], _∷_, _++_, append-assoc}
-use Prim.Native.Nat.{ℕ, _+_, _%_, _≤_, _<_}
+use Prim.Native.Nat.{ℕ, _+_, _≤_}
 use native.Mathlib.Nat.{add-assoc, suc-inj, suc-ne-zero}
 use native.Mathlib.Omega.{arith}
-use lib.IntN.{ℤ}
-use lib.ListN.{length, set}
-use mir.Syntax.{Width}
-use mir.Val.{SFits}
+use lib.ListN.{length}
 use Rattle.word.specs.Part.{put}
 use Rattle.word.specs.LittleEndian.{toBytes}
-use Rattle.word.specs.TwosComplement.{signed, unsigned}
 use Rattle.word.specs.Layouts.{total, pack}
-use Rattle.word.proofs.Part.{length-put, put-put, put-nil, set-put}
+use Rattle.word.proofs.Part.{length-put}
+use Rattle.word.proofs.Put.{put-put, put-nil}
 use Rattle.word.proofs.LittleEndian.{length-toBytes}
-use Rattle.word.proofs.TwosComplement.{signed-unsigned}
 use Rattle.word.proofs.Layouts.{length-pack}
-
--- ---- one number
-
--- one byte is written by storing it
-pub set-byte : (s : List ℕ) (at v : ℕ) → at < length s → v < 256 → set s at v ≡ put s at (toBytes 1 v)
-unfolding toBytes
-set-byte s at v h b =
-    let same : v % 256 ≡ v = omega arith in
-    rw same (set-put s at v h)
-
--- the bits of a signed number as a callee is handed it: read from its bits
-abbrev pub handed : Width → ℤ → ℕ
-handed w z = unsigned w (signed w (unsigned w z))
-
-pub bits-back : (w : Width) {z : ℤ} → SFits w z → handed w z ≡ unsigned w z
-bits-back w f = ap (unsigned w) (signed-unsigned f)
 
 -- ---- numbers
 
--- `Wrote ks vs s at i t`: writing the numbers vs by the layout ks, the first i bytes past place at, takes s to t
+-- `Wrote ks vs s at i t`: writing the numbers vs by the layout ks, the first i bytes past byte at, takes s to t
 pub data Wrote : List ℕ → List ℕ → List ℕ → ℕ → ℕ → List ℕ → Type 0 where
   end : {s : List ℕ} {at i : ℕ} → Wrote [] [] s at i s
   then : {k n v : ℕ} {ks vs s t u : List ℕ} {at i : ℕ} → n ≡ v → t ≡ put s (at + i) (toBytes k n) → Wrote ks vs t at (i + k) u
