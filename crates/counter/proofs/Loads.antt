@@ -1,22 +1,20 @@
 -- Loading keeps a state well formed: what is loaded passed the rules, and ED goes with ER.
-use mathlib.Core.Path.{_≡_, refl, _∙_}
-use mathlib.Core.Bool.{Bool, true, false, cond}
+use mathlib.Core.Path.{_≡_, _∙_}
+use mathlib.Core.Bool.{true, false, cond}
 use Prim.Native.Nat.{ℕ, _≤_, _<_, _^_}
 use native.Mathlib.Nat.{lt-of-le-of-lt}
-use native.Mathlib.Omega.{arith}
 use borrow.Author.Tests.{eqb-true}
 use lib.Dec.{eqb, lit<, lit≤}
-use lib.IntN.{ℤ}
 use Rattle.word.specs.Masks.{bit, setBit}
 use Rattle.word.proofs.Masks.{bit-setBit, bit-clearBit, setBit-lt, clearBit-le}
+use Rattle.word.proofs.Branches.{cond-cases}
 use Rattle.counter.specs.declared.state.Settings.{Settings}
 use Rattle.counter.specs.declared.state.Counter.{Counter}
-use Rattle.counter.specs.Parts.{flag, ED, LOADED, modeOf, withActive, withFlags}
+use Rattle.counter.specs.Parts.{flag, ED, LOADED, withActive, withFlags}
 use Rattle.counter.specs.Loading.{rules, ruleCount, presetRules, brokenFrom, AllPass, firstBroken, presetBroken, withoutError, accepted, rejected, load, withPresets, presetAccepted, presetLoad}
-use Rattle.counter.specs.WellFormed.{activeFormed, SettingsTyped}
+use Rattle.counter.specs.WellFormed.{SettingsTyped}
 use Rattle.counter.proofs.FirstBroken.{broken-le, pass-exact}
 use Rattle.counter.proofs.Changes.{Well}
-use Rattle.counter.proofs.Queue.{well-cond}
 
 -- ---- the number of a broken rule
 
@@ -31,7 +29,6 @@ preset-number s a = broken-le 2 (presetRules s a)
 -- ---- rejected
 
 pub well-rejected : (c : Counter) (n : ℕ) → Well c → n ≤ ruleCount → eqb n 0 ≡ false → Well (rejected n c)
-unfolding activeFormed
 well-rejected c n w h z =
     let f = w .formed in
     let t = w .typed in
@@ -53,7 +50,6 @@ well-rejected c n w h z =
 -- ED and ER at 0, LOADED at 1, and active settings that pass the rules
 well-cleared : (c : Counter) (s : Settings) (v : ℕ) → Well c → v < 2 ^ 20 → bit v LOADED ≡ true → firstBroken s ≡ 0 → SettingsTyped s
     → Well (withoutError (withFlags v (withActive s c)))
-unfolding activeFormed
 well-cleared c s v w below on passes typed =
     let f = w .formed in
     let t = w .typed in
@@ -79,7 +75,7 @@ pub well-load : (c : Counter) → Well c → Well (load c)
 unfolding load
 well-load c w =
     let n : ℕ = firstBroken (c .staged) in
-    well-cond (eqb n 0) (accepted c) (rejected n c) (λ z. well-accepted c w (eqb-true n 0 z))
+    cond-cases Well (eqb n 0) (accepted c) (rejected n c) (λ z. well-accepted c w (eqb-true n 0 z))
     (λ z. well-rejected c n w (first-number (c .staged)) z)
 
 -- ---- the preset load
@@ -92,7 +88,6 @@ presets-pass s a h p =
     rw (pass 0, pass 1) p
 
 pub well-presets : (c : Counter) → Well c → flag c LOADED ≡ true → presetBroken (c .staged) (c .active) ≡ 0 → Well (presetAccepted c)
-unfolding activeFormed
 well-presets c w l h =
     let s = w .typed .staged in
     let a = w .typed .active in
@@ -104,6 +99,6 @@ pub well-presetLoad : (c : Counter) → Well c → Well (presetLoad c)
 unfolding presetLoad
 well-presetLoad c w =
     let n : ℕ = presetBroken (c .staged) (c .active) in
-    well-cond (flag c LOADED) (cond (eqb n 0) (presetAccepted c) (rejected n c)) c
-    (λ l. well-cond (eqb n 0) (presetAccepted c) (rejected n c) (λ z. well-presets c w l (eqb-true n 0 z)) (λ z. well-rejected c n w (preset-number (c .staged) (c .active)) z))
+    cond-cases Well (flag c LOADED) (cond (eqb n 0) (presetAccepted c) (rejected n c)) c
+    (λ l. cond-cases Well (eqb n 0) (presetAccepted c) (rejected n c) (λ z. well-presets c w l (eqb-true n 0 z)) (λ z. well-rejected c n w (preset-number (c .staged) (c .active)) z))
     (λ l. w)

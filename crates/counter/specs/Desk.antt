@@ -23,6 +23,10 @@ first d = getD (d .waiting) 0 0
 abbrev pub second : Desk → ℕ
 second d = getD (d .waiting) 1 0
 
+-- how many wait, by the two places
+unfoldable pub queuedOf : ℕ → ℕ → ℕ
+queuedOf first second = cond (eqb first 0) 0 (cond (eqb second 0) 1 2)
+
 abbrev pub empty : Desk
 empty = deskOf 0 (0 ∷ 0 ∷ []) 0
 

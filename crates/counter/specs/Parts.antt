@@ -85,6 +85,10 @@ underflow = 3
 abbrev pub overflow : ℕ
 overflow = 4
 
+-- the causes are the numbers from 1 to this
+abbrev pub causeCount : ℕ
+causeCount = 4
+
 -- ---- the counter with one part changed
 
 abbrev pub withStaged : Settings → Counter → Counter

@@ -1,7 +1,7 @@
 // The desk: the running cause and the waiting ones. A cause is a number, 0 for none; which number is whose is not the desk's affair.
 ghost use mathlib.Core.Path.{_≡_};
 ghost use Prim.Native.Nat.{_<_};
-ghost use Rattle.counter.specs.Desk.{empty, starting, waiting, resting, advancing, post, finish};
+ghost use Rattle.counter.specs.Desk.{queuedOf, empty, starting, waiting, resting, advancing, post, finish};
 
 // The waiting causes stand at the front of `waiting`, `queued` of them, in order of arrival.
 pub struct Desk {
@@ -33,6 +33,17 @@ pub enum Next {
 pub struct Finished {
     pub desk: Desk,
     pub next: Next,
+}
+
+// How many causes wait, by the two places.
+pub fn queued_of(first: u8, second: u8) -> u8
+    ensures { λ r. ⌜ r ≡ queuedOf first second ⌝ }
+{
+    if first == 0 {
+        0
+    } else {
+        if second == 0 { 1 } else { 2 }
+    }
 }
 
 // None running, none waiting.

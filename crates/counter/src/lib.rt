@@ -13,3 +13,4 @@ pub mod rules;
 pub mod sampling;
 pub mod state;
 pub mod stepping;
+pub mod wellformed;

@@ -5,6 +5,9 @@ ghost use mathlib.Core.Path.{_≡_};
 ghost use Rattle.counter.specs.Parts.{modeOf, mode, upOnly};
 ghost use Rattle.counter.specs.Loading.{rule1, rule3, rule4, rule5, presetTests, brokenFrom, firstBroken};
 
+// How many rules there are.
+pub const COUNT: u16 = 5;
+
 // MOD as a number, 8 for every value that is no mode.
 pub fn mode_of(mode: i16) -> u8
     ensures { λ r. ⌜ r ≡ modeOf mode ⌝ }
