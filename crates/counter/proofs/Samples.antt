@@ -20,7 +20,7 @@ use Rattle.counter.specs.declared.state.Sampled.{Sampled}
 use Rattle.counter.specs.declared.state.Count.{Count}
 use Rattle.counter.specs.declared.state.Count.the-variants.{None, Up, Down}
 use Rattle.counter.specs.Parts.{FE, UIE, lowPreset, highPreset, overflow, causeCount, withAcc, withFlags, withLevels, upOnly, mode}
-use Rattle.counter.specs.Interrupts.{outputMask, presetWord, causeWord, masked, enabled, interrupt, withOutputs, raise}
+use Rattle.counter.specs.Interrupts.{outputMask, presetWord, causeWord, unmasked, enabled, interrupt, withOutputs, raise}
 use Rattle.counter.specs.Sample.{counted, up, down, upOf, downOf, sampledAs, unmoved, countedBy, resets, count, sampled, sample}
 use Rattle.counter.specs.Events.{programWord}
 use Rattle.counter.proofs.Limits.{up-fits, down-fits}
@@ -50,11 +50,11 @@ programWord-lt omb word out h = merge-lt 12 16 (outputMask omb) out (word % 4096
 
 -- only 1 to 4 become interrupts
 enabled-cause : (flags cause : ℕ) → enabled flags cause ≡ true → IsCause causeCount cause
-unfolding enabled masked
+unfolding enabled unmasked
 enabled-cause flags cause h = go (eqb cause 1) (eqb cause 2) (eqb cause 3) (eqb cause 4) refl refl refl refl
   where
-    m : masked flags cause ≡ true
-    m = and-eq-true-iff (bit flags FE && bit flags UIE) (masked flags cause) .0 h .1
+    m : unmasked flags cause ≡ true
+    m = and-eq-true-iff (bit flags FE && bit flags UIE) (unmasked flags cause) .0 h .1
 
     is : (n : ℕ) → eqb cause n ≡ true → eqb n 0 ≡ false → n ≤ causeCount → IsCause causeCount cause
     is n e z l = record { some = rw (eqb-true cause n e) z; small = rw (eqb-true cause n e) l }

@@ -20,7 +20,7 @@ use Rattle.counter.specs.Desk.{queuedOf, empty}
 use Rattle.counter.specs.Parts.{AS, SP, FE, flag, on, off, withStaged, withFlags, noSettings, freshSettings, fresh}
 use Rattle.counter.specs.Loading.{firstBroken, accepted, rejected, load}
 use Rattle.counter.specs.Interrupts.{quiet}
-use Rattle.counter.specs.Events.{isZero, takesBit, takesZero, legalFlag, legal, levelsOf, wordOf, shortOf, staged, stagedWrite, device, setTo, deviceWrite, spRises, flagWrite, emptied, autoStart, enterRun, programWord, control, apply, step}
+use Rattle.counter.specs.Events.{isZero, takesBit, takesZero, legalFlag, legal, levelsOf, wordOf, shortOf, staged, stagedWrite, device, setTo, deviceWrite, spRises, flagWrite, emptied, autoStart, enterRun, programWord, outputWrite, control, step}
 use Rattle.counter.specs.WellFormed.{SettingsTyped, Good, wellFormed, partsFormed, isNone}
 use Rattle.counter.proofs.Flags.{Other, other, kept-set, kept-clear, kept-quiet}
 use Rattle.counter.proofs.Legal.{flag-below}
@@ -40,20 +40,29 @@ short-fits v = sfits-signed (record { fits = word-lt v })
 staged-typed : (sub : ℕ) (v : ℤ) (s : Settings) → SFits w32 v → SettingsTyped s → SettingsTyped (staged sub v s)
 unfolding staged
 staged-typed sub v s h t =
-    cond-cases SettingsTyped (eqb sub 1) _ _ (λ e. record { pfn = t .pfn; mode = t .mode; hip = h; lop = t .lop; ovf = t .ovf; unf = t .unf; omb = t .omb; hpo = t .hpo; lpo = t .lpo })
-    (λ e. cond-cases SettingsTyped (eqb sub 2) _ _ (λ e. record { pfn = t .pfn; mode = t .mode; hip = t .hip; lop = h; ovf = t .ovf; unf = t .unf; omb = t .omb; hpo = t .hpo; lpo = t .lpo })
-    (λ e. cond-cases SettingsTyped (eqb sub 3) _ _ (λ e. record { pfn = t .pfn; mode = t .mode; hip = t .hip; lop = t .lop; ovf = h; unf = t .unf; omb = t .omb; hpo = t .hpo; lpo = t .lpo })
-    (λ e. cond-cases SettingsTyped (eqb sub 4) _ _ (λ e. record { pfn = t .pfn; mode = t .mode; hip = t .hip; lop = t .lop; ovf = t .ovf; unf = h; omb = t .omb; hpo = t .hpo; lpo = t .lpo })
-    (λ e. cond-cases SettingsTyped (eqb sub 5) _ _ (λ e. record { pfn = t .pfn; mode = t .mode; hip = t .hip; lop = t .lop; ovf = t .ovf; unf = t .unf; omb = t .omb; hpo = word-lt v; lpo = t .lpo })
-    (λ e. cond-cases SettingsTyped (eqb sub 6) _ _ (λ e. record { pfn = t .pfn; mode = t .mode; hip = t .hip; lop = t .lop; ovf = t .ovf; unf = t .unf; omb = t .omb; hpo = t .hpo; lpo = word-lt v })
+    cond-cases SettingsTyped (eqb sub 1) _ _
+    (λ e. record { pfn = t .pfn; mode = t .mode; hip = h; lop = t .lop; ovf = t .ovf; unf = t .unf; omb = t .omb; hpo = t .hpo; lpo = t .lpo })
+    (λ e. cond-cases SettingsTyped (eqb sub 2) _ _
+    (λ e. record { pfn = t .pfn; mode = t .mode; hip = t .hip; lop = h; ovf = t .ovf; unf = t .unf; omb = t .omb; hpo = t .hpo; lpo = t .lpo })
+    (λ e. cond-cases SettingsTyped (eqb sub 3) _ _
+    (λ e. record { pfn = t .pfn; mode = t .mode; hip = t .hip; lop = t .lop; ovf = h; unf = t .unf; omb = t .omb; hpo = t .hpo; lpo = t .lpo })
+    (λ e. cond-cases SettingsTyped (eqb sub 4) _ _
+    (λ e. record { pfn = t .pfn; mode = t .mode; hip = t .hip; lop = t .lop; ovf = t .ovf; unf = h; omb = t .omb; hpo = t .hpo; lpo = t .lpo })
+    (λ e. cond-cases SettingsTyped (eqb sub 5) _ _
+    (λ e. record { pfn = t .pfn; mode = t .mode; hip = t .hip; lop = t .lop; ovf = t .ovf; unf = t .unf; omb = t .omb; hpo = word-lt v; lpo = t .lpo })
+    (λ e. cond-cases SettingsTyped (eqb sub 6) _ _
+    (λ e. record { pfn = t .pfn; mode = t .mode; hip = t .hip; lop = t .lop; ovf = t .ovf; unf = t .unf; omb = t .omb; hpo = t .hpo; lpo = word-lt v })
     (λ e. t))))))
 
 device-typed : (sub : ℕ) (v : ℤ) (s : Settings) → SettingsTyped s → SettingsTyped (device sub v s)
 unfolding device
 device-typed sub v s t =
-    cond-cases SettingsTyped (eqb sub 1) _ _ (λ e. record { pfn = short-fits v; mode = t .mode; hip = t .hip; lop = t .lop; ovf = t .ovf; unf = t .unf; omb = t .omb; hpo = t .hpo; lpo = t .lpo })
-    (λ e. cond-cases SettingsTyped (eqb sub 2) _ _ (λ e. record { pfn = t .pfn; mode = short-fits v; hip = t .hip; lop = t .lop; ovf = t .ovf; unf = t .unf; omb = t .omb; hpo = t .hpo; lpo = t .lpo })
-    (λ e. cond-cases SettingsTyped (eqb sub 3) _ _ (λ e. record { pfn = t .pfn; mode = t .mode; hip = t .hip; lop = t .lop; ovf = t .ovf; unf = t .unf; omb = word-lt v; hpo = t .hpo; lpo = t .lpo })
+    cond-cases SettingsTyped (eqb sub 1) _ _
+    (λ e. record { pfn = short-fits v; mode = t .mode; hip = t .hip; lop = t .lop; ovf = t .ovf; unf = t .unf; omb = t .omb; hpo = t .hpo; lpo = t .lpo })
+    (λ e. cond-cases SettingsTyped (eqb sub 2) _ _
+    (λ e. record { pfn = t .pfn; mode = short-fits v; hip = t .hip; lop = t .lop; ovf = t .ovf; unf = t .unf; omb = t .omb; hpo = t .hpo; lpo = t .lpo })
+    (λ e. cond-cases SettingsTyped (eqb sub 3) _ _
+    (λ e. record { pfn = t .pfn; mode = t .mode; hip = t .hip; lop = t .lop; ovf = t .ovf; unf = t .unf; omb = word-lt v; hpo = t .hpo; lpo = t .lpo })
     (λ e. t)))
 
 -- ---- flags
@@ -87,6 +96,13 @@ well-deviceWrite c sub v w =
     cond-cases Well (eqb sub 4) (setTo AS v c) (withStaged (device sub v (c .staged)) c) (λ e. well-setTo c AS v w (other AS tt refl refl))
     (λ e. well-staged c w (device sub v (c .staged)) (device-typed sub v (c .staged) (w .typed .staged)))
 
+-- ---- outputs
+
+well-outputWrite : (c : Counter) (v : ℤ) → Well c → Well (outputWrite v c)
+well-outputWrite c v w =
+    let word : ℕ = programWord (c .active .omb) (wordOf v) (c .out) in
+    well-out c w word (programWord-lt (c .active .omb) (wordOf v) (c .out) (w .formed .out))
+
 -- ---- enter run
 
 well-emptied : (c : Counter) → Well c → Well (emptied c)
@@ -117,25 +133,27 @@ flagged : (kind sub : ℕ) (v : ℤ) → kind ≡ 4 → legal kind sub v ≡ tru
 unfolding legal
 flagged kind sub v e l = rw e at l
 
-well-apply : (c : Counter) (kind sub : ℕ) (v : ℤ) → Well c → SFits w32 v → legal kind sub v ≡ true → Well (apply kind sub v c)
-unfolding apply control stagedWrite
-well-apply c kind sub v w h l =
-    cond-cases Well (eqb kind 1) _ _ (λ k. well-sample c w (levelsOf v) (le-of-suc-le-suc (mod-lt (unsigned w32 v) (lit< tt))))
-    (λ k. cond-cases Well (eqb kind 2) _ _ (λ k. well-staged c w (staged sub v (c .staged)) (staged-typed sub v (c .staged) h (w .typed .staged)))
+well-control : (c : Counter) (kind sub : ℕ) (v : ℤ) → Well c → SFits w32 v → legal kind sub v ≡ true → Well (control kind sub v c)
+unfolding control stagedWrite
+well-control c kind sub v w h l =
+    cond-cases Well (eqb kind 2) _ _ (λ k. well-staged c w (staged sub v (c .staged)) (staged-typed sub v (c .staged) h (w .typed .staged)))
     (λ k. cond-cases Well (eqb kind 3) _ _ (λ k. well-deviceWrite c sub v w)
     (λ k. cond-cases Well (eqb kind 4) _ _ (λ k. well-flagWrite c sub v w (flagged kind sub v (eqb-true kind 4 k) l))
     (λ k. cond-cases Well (eqb kind 5) _ _ (λ k. well-acc c w v h)
     (λ k. cond-cases Well (eqb kind 6) _ _ (λ k. well-presetLoad c w)
     (λ k. cond-cases Well (eqb kind 7) _ _ (λ k. well-routineDone c w)
-    (λ k. cond-cases Well (eqb kind 8) _ _ (λ k. well-enterRun c w)
-    (λ k. cond-cases Well (eqb kind 9) _ _ (λ k. well-out c w (programWord (c .active .omb) (wordOf v) (c .out)) (programWord-lt (c .active .omb) (wordOf v) (c .out) (w .formed .out))) (λ k. w)))))))))
+    (λ k. cond-cases Well (eqb kind 8) _ _ (λ k. well-enterRun c w) (λ k. cond-cases Well (eqb kind 9) _ _ (λ k. well-outputWrite c v w) (λ k. w))))))))
 
 -- a legal event keeps a well-formed state well formed; one that is not legal changes nothing
 pub step-good : (kind sub : ℕ) (v : ℤ) (c : Counter) → SFits w32 v → Good c → Good (step kind sub v c)
 unfolding step
 step-good kind sub v c h g =
     let w : Well c = good-well c g in
-    well-good (step kind sub v c) (cond-cases Well (legal kind sub v) (apply kind sub v c) c (well-apply c kind sub v w h) (λ l. w))
+    let levels : levelsOf v ≤ 15 = le-of-suc-le-suc (mod-lt (unsigned w32 v) (lit< tt)) in
+    well-good (step kind sub v c)
+    (cond-cases Well (legal kind sub v) _ _
+    (λ l. cond-cases Well (eqb kind 1) _ _ (λ k. well-sample c w (levelsOf v) levels) (λ k. well-control c kind sub v w h l))
+    (λ l. w))
 
 zeros : SettingsTyped noSettings
 zeros =

@@ -28,15 +28,15 @@ causeWord cause omb hpo lpo out =
 
 -- ---- flags
 
--- the cause's mask
-unfoldable pub masked : ℕ → ℕ → Bool
-masked flags cause =
+-- the cause's mask is 1
+unfoldable pub unmasked : ℕ → ℕ → Bool
+unmasked flags cause =
     cond (eqb cause lowPreset) (bit flags LPM)
     (cond (eqb cause highPreset) (bit flags HPM) (cond (eqb cause underflow) (bit flags UFM) (cond (eqb cause overflow) (bit flags OFM) false)))
 
 -- a cause becomes an interrupt only if FE, UIE and its mask are 1
 unfoldable pub enabled : ℕ → ℕ → Bool
-enabled flags cause = bit flags FE && bit flags UIE && masked flags cause
+enabled flags cause = bit flags FE && bit flags UIE && unmasked flags cause
 
 -- LPI, HPI, UFI and OFI at 0
 unfoldable pub quiet : ℕ → ℕ

@@ -7,11 +7,11 @@ use super::outputs;
 use super::state::Counter;
 use word::bits;
 ghost use mathlib.Core.Path.{_≡_};
-ghost use Rattle.counter.specs.Interrupts.{masked, enabled, quiet, started, postedFlags, finishedFlags, interrupt, routineDone, withOutputs, raise};
+ghost use Rattle.counter.specs.Interrupts.{unmasked, enabled, quiet, started, postedFlags, finishedFlags, interrupt, routineDone, withOutputs, raise};
 
-// The cause's mask.
-fn masked(flags: u32, cause: u8) -> bool
-    ensures { λ r. ⌜ r ≡ masked flags cause ⌝ }
+// Whether the cause's mask is 1.
+fn unmasked(flags: u32, cause: u8) -> bool
+    ensures { λ r. ⌜ r ≡ unmasked flags cause ⌝ }
 {
     match cause {
         1 => bits::has(flags, flag::LPM),
@@ -26,7 +26,7 @@ fn masked(flags: u32, cause: u8) -> bool
 fn enabled(flags: u32, cause: u8) -> bool
     ensures { λ r. ⌜ r ≡ enabled flags cause ⌝ }
 {
-    bits::has(flags, flag::FE) & bits::has(flags, flag::UIE) & masked(flags, cause)
+    bits::has(flags, flag::FE) & bits::has(flags, flag::UIE) & unmasked(flags, cause)
 }
 
 // LPI, HPI, UFI and OFI at 0.
