@@ -5,7 +5,7 @@ use super::state::Counter;
 use super::state::Settings;
 use word::bits;
 ghost use mathlib.Core.Path.{_≡_};
-ghost use Rattle.counter.specs.Loading.{withoutError, accepted, rejected, load, withPresets, hslBroken, presetAccepted, presetLoad};
+ghost use Rattle.counter.specs.Loading.{withoutError, accepted, rejected, load, withPresets, presetBroken, presetAccepted, presetLoad};
 
 // ED 0, ER 0.
 fn without_error(c: Counter) -> Counter
@@ -76,7 +76,7 @@ fn accept_presets(c: Counter) -> Counter
 
 // The first of rules 3 to 5 that a preset load breaks.
 fn presets_broken(s: Settings, a: Settings) -> u16
-    ensures { λ r. ⌜ r ≡ hslBroken s a ⌝ }
+    ensures { λ r. ⌜ r ≡ presetBroken s a ⌝ }
 {
     rules::preset_broken(rules::mode_of(a.mode), s.hip, s.lop, a.ovf, a.unf)
 }

@@ -1,8 +1,12 @@
 // Loading settings: the rules in their order.
+use super::state::Counter;
 use super::state::Settings;
 ghost use mathlib.Core.Path.{_≡_};
-ghost use Rattle.counter.specs.Parts.{modeOf, upOnly};
-ghost use Rattle.counter.specs.Loading.{rule1, rule3, rule4, rule5, presetBroken, firstBroken};
+ghost use Rattle.counter.specs.Parts.{modeOf, mode, upOnly};
+ghost use Rattle.counter.specs.Loading.{rule1, rule3, rule4, rule5, presetTests, brokenFrom, firstBroken};
+
+// How many rules there are.
+pub const COUNT: u16 = 5;
 
 // MOD as a number, 8 for every value that is no mode.
 pub fn mode_of(mode: i16) -> u8
@@ -12,6 +16,14 @@ pub fn mode_of(mode: i16) -> u8
         0..=7 => mode as u8,
         _ => 8,
     }
+}
+
+// The active mode.
+pub fn mode(c: Counter) -> u8
+    ensures { λ r. ⌜ r ≡ mode c ⌝ }
+{
+    let a = c.active;
+    mode_of(a.mode)
 }
 
 // Modes 0 and 1 count up only.
@@ -47,7 +59,7 @@ fn low_rule(m: u8, lop: i32, unf: i32) -> bool
 
 // The first of rules 3 to 5 that is broken, 0 if none is.
 pub fn preset_broken(m: u8, hip: i32, lop: i32, ovf: i32, unf: i32) -> u16
-    ensures { λ r. ⌜ r ≡ presetBroken m hip lop ovf unf ⌝ }
+    ensures { λ r. ⌜ r ≡ brokenFrom 3 (presetTests m hip lop ovf unf) ⌝ }
 {
     if high_rule(m, hip, lop) {
         if overflow_rule(hip, ovf) {

@@ -1,7 +1,7 @@
 -- `counter::loading::presets_broken` meets its contract: the rules are asked of the parts that the definition names.
 use mathlib.Core.Path.{_∙_}
 use Rattle.word.proofs.TwosComplement.{signed-unsigned}
-use Rattle.counter.specs.Loading.{hslBroken}
+use Rattle.counter.specs.Loading.{presetBroken}
 use Rattle.counter.proofs.Told.{settings-told}
 use borrow.Author.Needs.{needs}
 use Rattle.counter.proofs.loading.presets_broken.Statement.{statement}
@@ -14,7 +14,7 @@ preset-broken-requires : tie.Need-preset-broken-requires
 preset-broken-requires c κs = search needs
 
 returns : tie.Need-returns
-unfolding hslBroken
+unfolding presetBroken
 returns c =
     let moded = c .before .before .before .before .before in
     let args = moded .before .before .args in

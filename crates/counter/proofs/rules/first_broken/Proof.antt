@@ -5,7 +5,7 @@ use mathlib.Core.Path.{_≡_, sym, ap, _∙_}
 use mathlib.Core.Bool.{Bool}
 use Rattle.word.proofs.TwosComplement.{signed-unsigned}
 use Rattle.counter.specs.Parts.{modeOf}
-use Rattle.counter.specs.Loading.{rule1, firstBroken}
+use Rattle.counter.specs.Loading.{rule1, brokenFrom, firstBroken}
 use Rattle.counter.specs.WellFormed.{SettingsTyped}
 use Rattle.counter.proofs.Told.{settings-told}
 use Rattle.counter.proofs.rules.first_broken.Statement.{statement}
@@ -30,7 +30,7 @@ preset-broken-requires : tie.Need-preset-broken-requires
 preset-broken-requires c κs = search needs
 
 returns : tie.Need-returns
-unfolding firstBroken
+unfolding firstBroken brokenFrom
 returns c =
     let tested = c .before .before .before .before .before .before .before in
     let told = tested .before .before .before in
@@ -40,13 +40,13 @@ returns c =
     (simp (signed-unsigned (t .hip), signed-unsigned (t .lop), signed-unsigned (t .ovf), signed-unsigned (t .unf)) at (c .preset-broken .ensures))
 
 returns-2 : tie.Need-returns-2
-unfolding firstBroken
+unfolding firstBroken brokenFrom
 returns-2 c =
     let tested = c .before .before in
     rw (routine tested _ (c .before .if1 .taken), ← mode (tested .before .before), le-ltb _ _ (c .if2 .left))
 
 returns-3 : tie.Need-returns-3
-unfolding firstBroken
+unfolding firstBroken brokenFrom
 returns-3 c = rw (routine (c .before) _ (c .if1 .left))
 
 pub first-broken-spec : {M : Type 1} → statement M

@@ -3,7 +3,7 @@ use borrow.Author.Needs.{needs}
 use mathlib.Core.Path.{_≡_, sym, _∙_}
 use mathlib.Core.Bool.{Bool}
 use Rattle.word.proofs.TwosComplement.{signed-unsigned}
-use Rattle.counter.specs.Loading.{rule3, rule4, rule5, presetBroken}
+use Rattle.counter.specs.Loading.{rule3, rule4, rule5, brokenFrom}
 use Rattle.counter.proofs.rules.preset_broken.Statement.{statement}
 use Rattle.counter.proofs.rules.preset_broken.Tie as tie
 
@@ -30,25 +30,25 @@ low-rule-requires : tie.Need-low-rule-requires
 low-rule-requires c κs = search needs
 
 returns : tie.Need-returns
-unfolding presetBroken
+unfolding brokenFrom
 returns c =
     let tested = c .before .before .before in
     rw (high (tested .before .before) _ (tested .before .if1 .taken), within tested _ (c .before .before .if2 .taken), low (c .before) _ (c .if3 .taken))
 
 returns-2 : tie.Need-returns-2
-unfolding presetBroken
+unfolding brokenFrom
 returns-2 c =
     let tested = c .before .before .before in
     rw (high (tested .before .before) _ (tested .before .if1 .taken), within tested _ (c .before .before .if2 .taken), low (c .before) _ (c .if3 .left))
 
 returns-3 : tie.Need-returns-3
-unfolding presetBroken
+unfolding brokenFrom
 returns-3 c =
     let tested = c .before in
     rw (high (tested .before .before) _ (tested .before .if1 .taken), within tested _ (c .if2 .left))
 
 returns-4 : tie.Need-returns-4
-unfolding presetBroken
+unfolding brokenFrom
 returns-4 c = rw (high (c .before) _ (c .if1 .left))
 
 pub preset-broken-spec : {M : Type 1} → statement M

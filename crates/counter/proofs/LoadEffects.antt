@@ -9,7 +9,7 @@ use Rattle.word.specs.Masks.{bit, setBit, clearBit}
 use Rattle.word.proofs.Masks.{bit-setBit, bit-clearBit}
 use Rattle.counter.specs.declared.state.Counter.{Counter}
 use Rattle.counter.specs.Parts.{flag, ED, LOADED}
-use Rattle.counter.specs.Loading.{firstBroken, rules, presetRules, First, None, Accepted, Rejected, accepted, rejected, load, hslBroken, withPresets, presetAccepted, presetLoad}
+use Rattle.counter.specs.Loading.{firstBroken, rules, presetRules, First, AllPass, Accepted, Rejected, accepted, rejected, load, presetBroken, withPresets, presetAccepted, presetLoad}
 use Rattle.counter.proofs.Exact.{load-er, load-refused, load-accepted, preset-er, preset-refused, preset-accepted}
 
 -- setting or clearing flag n leaves flag m
@@ -32,9 +32,7 @@ accepted-leaves c =
         acc = refl;
         out = refl;
         levels = refl;
-        running = refl;
-        waiting = refl;
-        queued = refl;
+        desk = refl;
         flags = λ n l e o. clear-other v ED n (lit< tt) l e ∙ set-other (c .flags) LOADED n o;
       };
     }
@@ -51,9 +49,7 @@ rejected-leaves c n =
         acc = refl;
         out = refl;
         levels = refl;
-        running = refl;
-        waiting = refl;
-        queued = refl;
+        desk = refl;
         flags = λ m l e o. set-other (c .flags) ED m e;
       };
     }
@@ -70,9 +66,7 @@ presets-leave c l =
         acc = refl;
         out = refl;
         levels = refl;
-        running = refl;
-        waiting = refl;
-        queued = refl;
+        desk = refl;
         flags = λ n b e o. clear-other (c .flags) ED n (lit< tt) b e;
       };
     }
@@ -80,7 +74,7 @@ presets-leave c l =
 -- ---- by the rules
 
 module _ (c : Counter) where
-  pub load-accepts : None (rules (c .staged)) → Accepted c (c .staged) (load c)
+  pub load-accepts : AllPass (rules (c .staged)) → Accepted c (c .staged) (load c)
   unfolding load
   load-accepts h =
       let z : firstBroken (c .staged) ≡ 0 = sym (load-er c) ∙ load-accepted c .1 h in
@@ -93,16 +87,16 @@ module _ (c : Counter) where
       subst (Rejected c (1 + k)) (sym (rw (n, ne-eqb (1 + k) 0 (omega arith)))) (rejected-leaves c (1 + k))
 
   module _ (l : flag c LOADED ≡ true) where
-    pub preset-accepts : None (presetRules (c .staged) (c .active)) → Accepted c (withPresets (c .staged) (c .active)) (presetLoad c)
+    pub preset-accepts : AllPass (presetRules (c .staged) (c .active)) → Accepted c (withPresets (c .staged) (c .active)) (presetLoad c)
     unfolding presetLoad
     preset-accepts h =
-        let z : hslBroken (c .staged) (c .active) ≡ 0 = sym (preset-er c l) ∙ preset-accepted c l .1 h in
+        let z : presetBroken (c .staged) (c .active) ≡ 0 = sym (preset-er c l) ∙ preset-accepted c l .1 h in
         subst (Accepted c (withPresets (c .staged) (c .active))) (sym (rw (l, z))) (presets-leave c l)
 
     pub preset-rejects : (k : ℕ) → First (presetRules (c .staged) (c .active)) k → Rejected c (3 + k) (presetLoad c)
     unfolding presetLoad
     preset-rejects k f =
-        let n : hslBroken (c .staged) (c .active) ≡ 3 + k = sym (preset-er c l) ∙ preset-refused c k l .1 f in
+        let n : presetBroken (c .staged) (c .active) ≡ 3 + k = sym (preset-er c l) ∙ preset-refused c k l .1 f in
         subst (Rejected c (3 + k)) (sym (rw (l, n, ne-eqb (3 + k) 0 (omega arith)))) (rejected-leaves c (3 + k))
 
   -- nothing loaded: no effect
