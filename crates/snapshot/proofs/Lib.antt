@@ -1,7 +1,6 @@
 -- The laws of the definitions in `specs/`, for callers to cite.
 pub mod Moving
 pub mod Offsets
-pub mod Causes
 pub mod Rules
 pub mod RoundTrip
 pub mod Sampled

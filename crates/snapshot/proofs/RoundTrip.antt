@@ -15,12 +15,14 @@ use Rattle.word.proofs.Layouts.{length-pack, unpack-pack, pack-unpack, held-unp
 use Rattle.word.proofs.Replaced.{held-at, held-drop}
 use Rattle.counter.specs.declared.state.Settings.{Settings}
 use Rattle.counter.specs.declared.state.Counter.{Counter}
+use Rattle.counter.specs.Desk.{first, second}
 use Rattle.counter.specs.WellFormed.{wellFormed, SettingsTyped, Typed, Good}
+use Rattle.counter.proofs.Formed.{Formed, formed-parts}
 use Rattle.snapshot.specs.Widths.{snapshotSize, settingsLayout, otherLayout, snapshotLayout}
 use Rattle.snapshot.specs.Places.{activeIndex, accIndex}
 use Rattle.snapshot.specs.Snapshots.{settingsRow, otherRow, rowOf, encode, settingsOf, stateOf, decode}
 use Rattle.snapshot.specs.FormedBytes.{formed}
-use Rattle.snapshot.proofs.Rules.{Bounded, bounded, formed-decode}
+use Rattle.snapshot.proofs.Rules.{formed-decode}
 
 -- ---- the encoding of any state
 
@@ -43,20 +45,28 @@ held-settings t =
     (more (fits-unsigned (t .ovf) .fits)
     (more (fits-unsigned (t .unf) .fits) (more (t .omb) (more (t .hpo) (more (t .lpo) none))))))))
 
-held-other : {c : Counter} → Typed c → Bounded c → Held otherLayout (otherRow c)
-held-other {c} t b =
+held-other : {c : Counter} → Typed c → Formed c → Held otherLayout (otherRow c)
+held-other {c} t f =
+    let causes = f .causes in
     let out : c .out < 256 ^ 2 = omega arith in
     let er : c .er < 256 ^ 2 = omega arith in
     let flags : c .flags < 256 ^ 4 = omega arith in
     let levels : c .levels < 256 ^ 1 = omega arith in
-    let running : c .running < 256 ^ 1 = omega arith in
-    let first : getD (c .waiting) 0 0 < 256 ^ 1 = omega arith in
-    let second : getD (c .waiting) 1 0 < 256 ^ 1 = omega arith in
-    more (fits-unsigned (t .acc) .fits) (more out (more er (more flags (more levels (more running (more first (more second none)))))))
+    let running : c .desk .running < 256 ^ 1 = omega arith in
+    let one : first (c .desk) < 256 ^ 1 = omega arith in
+    let two : second (c .desk) < 256 ^ 1 = omega arith in
+    more (fits-unsigned (t .acc) .fits) (more out (more er (more flags (more levels (more running (more one (more two none)))))))
 
 settings-back : (s : Settings) (rest : List ℕ) → SettingsTyped s → settingsOf (settingsRow s ++ rest) ≡ s
 settings-back s rest t =
-    simp (signed-unsigned (t .pfn), signed-unsigned (t .mode), signed-unsigned (t .hip), signed-unsigned (t .lop), signed-unsigned (t .ovf), signed-unsigned (t .unf))
+    simp (
+      signed-unsigned (t .pfn),
+      signed-unsigned (t .mode),
+      signed-unsigned (t .hip),
+      signed-unsigned (t .lop),
+      signed-unsigned (t .ovf),
+      signed-unsigned (t .unf),
+    )
 
 two : (l : List ℕ) → length l ≡ 2 → getD l 0 0 ∷ getD l 1 0 ∷ [] ≡ l
 two [] h = absurd (omega arith)
@@ -64,13 +74,19 @@ two (x ∷ []) h = absurd (omega arith)
 two (x ∷ y ∷ []) h = refl
 two (x ∷ y ∷ z ∷ zs) h = absurd (omega arith)
 
-row-back : (c : Counter) → Typed c → Bounded c → stateOf (rowOf c) ≡ c
-row-back c t b =
-    rw (settings-back (c .staged) (settingsRow (c .active) ++ otherRow c) (t .staged), settings-back (c .active) (otherRow c) (t .active), signed-unsigned (t .acc), b .queue .counted, two (c .waiting) (t .waiting))
+row-back : (c : Counter) → Typed c → Formed c → stateOf (rowOf c) ≡ c
+row-back c t f =
+    rw (
+      settings-back (c .staged) (settingsRow (c .active) ++ otherRow c) (t .staged),
+      settings-back (c .active) (otherRow c) (t .active),
+      signed-unsigned (t .acc),
+      ← f .causes .queue .counted,
+      two (c .desk .waiting) (t .waiting),
+    )
 
 held-row : (c : Counter) → Good c → Held snapshotLayout (rowOf c)
 held-row c g =
-    held-append (held-settings (g .typed .staged)) (held-append (held-settings (g .typed .active)) (held-other (g .typed) (bounded c (g .formed))))
+    held-append (held-settings (g .typed .staged)) (held-append (held-settings (g .typed .active)) (held-other (g .typed) (formed-parts c (g .formed))))
 
 pub unpack-encode : (c : Counter) → Good c → unpack snapshotLayout (encode c) ≡ rowOf c
 unfolding encode
@@ -78,7 +94,7 @@ unpack-encode c g = unpack-pack (held-row c g)
 
 pub decode-encode : (c : Counter) → Good c → decode (encode c) ≡ c
 unfolding decode
-decode-encode c g = ap stateOf (unpack-encode c g) ∙ row-back c (g .typed) (bounded c (g .formed))
+decode-encode c g = ap stateOf (unpack-encode c g) ∙ row-back c (g .typed) (formed-parts c (g .formed))
 
 -- ---- a row whose widths hold its numbers
 

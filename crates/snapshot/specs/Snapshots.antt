@@ -1,8 +1,6 @@
 -- Document 01, "Snapshot, 68 bytes": a state as a row of numbers, the row's bytes, and back. A signed number stands by its bits.
-use mathlib.Core.Bool.{cond}
 use mathlib.Core.List.{List, [], _∷_, _++_}
 use Prim.Native.Nat.{ℕ, _+_}
-use lib.Dec.{eqb}
 use lib.ListN.{getD, drop}
 use mir.Syntax.{w16, w32}
 use Rattle.word.specs.LittleEndian.{numberAt}
@@ -10,6 +8,8 @@ use Rattle.word.specs.TwosComplement.{signed, unsigned}
 use Rattle.word.specs.Layouts.{pack, unpack}
 use Rattle.counter.specs.declared.state.Settings.{Settings}
 use Rattle.counter.specs.declared.state.Counter.{Counter}
+use Rattle.counter.specs.declared.desk.Desk.{Desk}
+use Rattle.counter.specs.Desk.{deskOf, first, second, queuedOf}
 use Rattle.snapshot.specs.Widths.{snapshotLayout}
 use Rattle.snapshot.specs.Places.{modeAt, hipAt, lopAt, ovfAt, unfAt, ombAt, hpoAt, lpoAt}
 use Rattle.snapshot.specs.Places.{activeAt, accAt, outAt, erAt, flagsAt, levelsAt, runningAt, firstAt, secondAt}
@@ -37,9 +37,9 @@ otherRow c =
     ∷ c .er
     ∷ c .flags
     ∷ c .levels
-    ∷ c .running
-    ∷ getD (c .waiting) 0 0
-    ∷ getD (c .waiting) 1 0
+    ∷ c .desk .running
+    ∷ first (c .desk)
+    ∷ second (c .desk)
     ∷ []
 
 abbrev pub rowOf : Counter → List ℕ
@@ -65,9 +65,9 @@ settingsOf r =
       lpo = getD r 8 0;
     }
 
--- how many wait, by the two waiting causes: 0 is none
-unfoldable pub queuedOf : ℕ → ℕ → ℕ
-queuedOf first second = cond (eqb first 0) 0 (cond (eqb second 0) 1 2)
+-- the desk by the running cause and the two waiting ones, 0 for none
+abbrev pub deskBy : ℕ → ℕ → ℕ → Desk
+deskBy running first second = deskOf running (first ∷ second ∷ []) (queuedOf first second)
 
 abbrev pub stateOf : List ℕ → Counter
 stateOf r =
@@ -79,9 +79,7 @@ stateOf r =
       er = getD r erIndex 0;
       flags = getD r flagsIndex 0;
       levels = getD r levelsIndex 0;
-      running = getD r runningIndex 0;
-      waiting = getD r firstIndex 0 ∷ getD r secondIndex 0 ∷ [];
-      queued = queuedOf (getD r firstIndex 0) (getD r secondIndex 0);
+      desk = deskBy (getD r runningIndex 0) (getD r firstIndex 0) (getD r secondIndex 0);
     }
 
 unfoldable pub decode : List ℕ → Counter
@@ -103,6 +101,9 @@ settingsAt s at =
       lpo = numberAt s (at + lpoAt) 2;
     }
 
+abbrev pub deskAt : List ℕ → ℕ → Desk
+deskAt s at = deskBy (numberAt s (at + runningAt) 1) (numberAt s (at + firstAt) 1) (numberAt s (at + secondAt) 1)
+
 abbrev pub stateAt : List ℕ → ℕ → Counter
 stateAt s at =
     record {
@@ -113,7 +114,5 @@ stateAt s at =
       er = numberAt s (at + erAt) 2;
       flags = numberAt s (at + flagsAt) 4;
       levels = numberAt s (at + levelsAt) 1;
-      running = numberAt s (at + runningAt) 1;
-      waiting = numberAt s (at + firstAt) 1 ∷ numberAt s (at + secondAt) 1 ∷ [];
-      queued = queuedOf (numberAt s (at + firstAt) 1) (numberAt s (at + secondAt) 1);
+      desk = deskAt s at;
     }
