@@ -42,7 +42,8 @@ holds-as b m e h = subst (λ (x : Counter). HoldsIfGood x b m) e h
 -- ---- what the two hold
 
 -- numbers beside the snapshot, which their widths hold
-split-pack : (b : List ℕ) {vs : List ℕ} → Held movingLayout vs → splitState b (pack movingLayout vs) ≡ stateOf (replace movingIndices vs (unpack snapshotLayout b))
+split-pack : (b : List ℕ) {vs : List ℕ} → Held movingLayout vs
+    → splitState b (pack movingLayout vs) ≡ stateOf (replace movingIndices vs (unpack snapshotLayout b))
 unfolding splitState
 split-pack b h = ap (λ (ws : List ℕ). stateOf (replace movingIndices ws (unpack snapshotLayout b))) (unpack-pack h)
 
@@ -63,7 +64,9 @@ split-written c g =
 module _ (b m : List ℕ) (bytes : Bytes b) (long : length b ≡ snapshotSize) (known : Bytes m) (short : length m ≡ movingSize) where
   encode-split : encode (splitState b m) ≡ pack snapshotLayout (replace movingIndices (unpack movingLayout m) (unpack snapshotLayout b))
   unfolding encode splitState total
-  encode-split = ap (pack snapshotLayout) (row-state (held-replace (held-unpack snapshotLayout b bytes long) movingIndices (held-unpack movingLayout m known short)))
+  encode-split =
+      let beside : Held movingLayout (unpack movingLayout m) = held-unpack movingLayout m known short in
+      ap (pack snapshotLayout) (row-state (held-replace (held-unpack snapshotLayout b bytes long) movingIndices beside))
 
 -- the numbers written one by one over those of a snapshot inside an image
 pub replaced-image : (image m : List ℕ) (at : ℕ) {t : List ℕ} → Bytes image → Bytes m → at + snapshotSize ≤ length image → length m ≡ movingSize

@@ -1,4 +1,4 @@
--- Document 01, "Snapshot, 68 bytes": a state as a row of numbers, the row's bytes, and back. A signed number stands by its bits.
+-- Document 01, "Snapshot, 68 bytes": a state as a row of numbers, the row's bytes, and back. A signed number is in the row by its bits.
 use mathlib.Core.List.{List, [], _∷_, _++_}
 use Prim.Native.Nat.{ℕ, _+_}
 use lib.ListN.{getD, drop}
@@ -85,7 +85,7 @@ stateOf r =
 unfoldable pub decode : List ℕ → Counter
 decode b = stateOf (unpack snapshotLayout b)
 
--- ---- the same by document 01's byte offsets: what stands in a list of bytes from byte at
+-- ---- the same by document 01's byte offsets, in a list of bytes from byte at
 
 abbrev pub settingsAt : List ℕ → ℕ → Settings
 settingsAt s at =

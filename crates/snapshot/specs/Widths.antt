@@ -25,7 +25,7 @@ otherLayout = 4 ∷ 2 ∷ 2 ∷ 4 ∷ 1 ∷ 1 ∷ 1 ∷ 1 ∷ []
 abbrev pub snapshotLayout : List ℕ
 snapshotLayout = settingsLayout ++ (settingsLayout ++ otherLayout)
 
--- which numbers of a snapshot's row stand beside it while events are taken: ACC, flags, levels
+-- which numbers of a snapshot's row are held beside it while events are taken: ACC, flags, levels
 abbrev pub movingIndices : List ℕ
 movingIndices = accIndex ∷ flagsIndex ∷ levelsIndex ∷ []
 

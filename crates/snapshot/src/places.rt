@@ -43,7 +43,7 @@ pub const ZERO: usize = 2;
 
 pub const VALUE: usize = 4;
 
-// In the numbers that stand beside a snapshot while events are taken; ACC is the first.
+// In the numbers beside a snapshot while events are taken; ACC is the first.
 pub const MOVING_FLAGS: usize = 4;
 
 pub const MOVING_LEVELS: usize = 8;

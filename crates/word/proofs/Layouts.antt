@@ -20,7 +20,7 @@ length-pack (k ∷ ks) [] h = absurd (suc-ne-zero (length ks) (sym h))
 length-pack (k ∷ ks) (v ∷ vs) h =
     length-append (toBytes k v) (pack ks vs) ∙ cc (length-toBytes k v, length-pack ks vs (suc-inj h))
 
--- number i of a row is replaced by writing its bytes over those that stand there
+-- number i of a row is replaced by writing the bytes of the new one over those of the old
 pub pack-set : (ks vs : List ℕ) (i v : ℕ) → i < length ks → length vs ≡ length ks
     → put (pack ks vs) (total (take i ks)) (toBytes (getD ks i 0) v) ≡ pack ks (set vs i v)
 unfolding pack total
@@ -39,7 +39,8 @@ pub unpack-pack : {ks vs : List ℕ} → Held ks vs → unpack ks (pack ks vs) �
 unfolding pack unpack
 unpack-pack none = refl
 unpack-pack (more {k = k} {v = v} {ks = ks} {vs = vs} h r) =
-    rw (take-at (toBytes k v) (pack ks vs) k (length-toBytes k v), drop-at (toBytes k v) (pack ks vs) k (length-toBytes k v), ofBytes-toBytes k v h, unpack-pack r)
+    let long : length (toBytes k v) ≡ k = length-toBytes k v in
+    rw (take-at (toBytes k v) (pack ks vs) k long, drop-at (toBytes k v) (pack ks vs) k long, ofBytes-toBytes k v h, unpack-pack r)
 
 -- the first number of a layout, and the bytes that are left for the others
 module _ (k : ℕ) (ks bs : List ℕ) (b : Bytes bs) (h : length bs ≡ k + total ks) where
@@ -80,7 +81,7 @@ bytes-pack (k ∷ ks) (v ∷ vs) i = bytes-append (toBytes k v) (pack ks vs) (by
 
 -- ---- numbers at their offsets
 
--- the numbers of a layout whose first stands i bytes past byte at
+-- the numbers of a layout whose first is i bytes past byte at
 abbrev pub numbersAt : List ℕ → List ℕ → ℕ → ℕ → List ℕ
 numbersAt [] s at i = []
 numbersAt (k ∷ ks) s at i = numberAt s (at + i) k ∷ numbersAt ks s at (i + k)

@@ -23,13 +23,13 @@ module _ {A : Type 0} where
 
   -- ---- before and after a write
 
-  -- what stands before a written part is as it was
+  -- before the write, all is as it was
   pub take-put : (l : List A) (at : ℕ) (bs : List A) (n : ℕ) → n ≤ at → at ≤ length l → take n (put l at bs) ≡ take n l
   unfolding put
   take-put l at bs n h k =
       take-append-le n (take at l) (bs ++ drop (at + length bs) l) (rw (length-take-le at l k) h) ∙ take-take n at l h
 
-  -- what stands before a written part's end is what stood before it, and the part
+  -- up to the end of what was written
   pub take-put-end : (l : List A) (at : ℕ) (bs : List A) → at ≤ length l → take (at + length bs) (put l at bs) ≡ take at l ++ bs
   unfolding put
   take-put-end l at bs h =
@@ -38,7 +38,7 @@ module _ {A : Type 0} where
       ap (take (at + length bs)) (sym (append-assoc (take at l) bs (drop (at + length bs) l)))
       ∙ take-at (take at l ++ bs) (drop (at + length bs) l) (at + length bs) front
 
-  -- what stands past it is as it was
+  -- past the write, all is as it was
   pub drop-put : (l : List A) (at : ℕ) (bs : List A) (n : ℕ) → at + length bs ≤ n → at ≤ length l → drop n (put l at bs) ≡ drop n l
   unfolding put
   drop-put l at bs n h k =
@@ -54,14 +54,14 @@ module _ {A : Type 0} where
 
   -- ---- a part after a write
 
-  -- at the place that was written
+  -- where it was written
   pub part-put : (l : List A) (at : ℕ) (bs : List A) → at ≤ length l → part (put l at bs) at (length bs) ≡ bs
   unfolding part put
   part-put l at bs h =
       ap (take (length bs)) (drop-at (take at l) (bs ++ drop (at + length bs) l) at (length-take-le at l h))
       ∙ take-append-seam bs (drop (at + length bs) l)
 
-  -- a part that ends before a place is a part of what stands before that place
+  -- a part of the first `at` elements is a part of the whole
   drop-take : (k m : ℕ) (l : List A) → drop k (take (k + m) l) ≡ take m (drop k l)
   drop-take zero m l = rw zero-add
   drop-take (suc k) m [] = rw (suc-add, take-nil m)
@@ -81,14 +81,14 @@ module _ {A : Type 0} where
   unfolding part
   drop-part l at k m = drop-take k m (drop at l) ∙ ap (take m) (drop-drop k at l)
 
-  -- at a place before it
+  -- before it
   pub part-put-before : (l : List A) (at : ℕ) (bs : List A) (k n : ℕ) → k + n ≤ at → at ≤ length l → part (put l at bs) k n ≡ part l k n
   part-put-before l at bs k n h b =
       sym (part-take (put l at bs) at k n h)
       ∙ ap (λ (m : List A). part m k n) (take-put l at bs at (le-refl at) b)
       ∙ part-take l at k n h
 
-  -- at a place past it
+  -- past it
   pub part-put-past : (l : List A) (at : ℕ) (bs : List A) (k n : ℕ) → at + length bs ≤ k → at ≤ length l → part (put l at bs) k n ≡ part l k n
   unfolding part
   part-put-past l at bs k n h b = ap (take n) (drop-put l at bs k h b)

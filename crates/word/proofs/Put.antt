@@ -13,7 +13,7 @@ use Rattle.word.proofs.Part.{length-put, take-put-end, drop-put, put-wh
 module _ {A : Type 0} where
   -- ---- writes in a row
 
-  -- what `put` is, for terms in which it stands folded
+  -- what `put` is, where it is not unfolded
   put-is : (l : List A) (at : ℕ) (b : List A) → put l at b ≡ take at l ++ (b ++ drop (at + length b) l)
   unfolding put
   put-is l at b = refl

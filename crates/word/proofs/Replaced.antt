@@ -46,7 +46,7 @@ held-replace h (i ∷ is) (more b g) = held-replace (held-set h i b) is g
 
 -- ---- bytes
 
--- number i stands inside its row
+-- number i is inside its row
 offset-within : (ks : List ℕ) (i : ℕ) → i < length ks → offset ks i + getD ks i 0 ≤ total ks
 unfolding total
 offset-within [] i h = absurd (omega arith)

@@ -9,7 +9,7 @@ unfoldable pub total : List ℕ → ℕ
 total [] = 0
 total (k ∷ ks) = k + total ks
 
--- how many bytes stand before number i
+-- how many bytes come before number i
 abbrev pub offset : List ℕ → ℕ → ℕ
 offset ks i = total (take i ks)
 

@@ -41,7 +41,9 @@ returns c =
     let first = second .before .before .before .before in
     let start = first .before .before .before in
     wrote (now (start .args .s)) (bits-back w32 (start .fits .hip)) (first .write-i32 .ensures)
-    (then (bits-back w32 (start .fits .lop)) (second .write-i322 .ensures) (then (bits-back w32 (start .fits .ovf)) (third .write-i323 .ensures) (then (bits-back w32 (start .fits .unf)) (fourth .write-i324 .ensures) end)))
+    (then (bits-back w32 (start .fits .lop)) (second .write-i322 .ensures)
+    (then (bits-back w32 (start .fits .ovf)) (third .write-i323 .ensures)
+    (then (bits-back w32 (start .fits .unf)) (fourth .write-i324 .ensures) end)))
     (start .pre)
 
 pub write-limits-spec : {M : Type 1} → statement M

@@ -38,7 +38,8 @@ returns c =
     let long : a .at + snapshotSize - a .at ≡ snapshotSize = omega arith in
     copied .copy-over .ensures
     ∙ ap (λ (n : ℕ). put (now (a .s)) 0 (take n (drop (a .at) (now (a .image))))) long
-    ∙ put-whole (now (a .s)) (part (now (a .image)) (a .at) snapshotSize) (start .pre .1 ∙ sym (length-part (now (a .image)) (a .at) snapshotSize (start .pre .0)))
+    ∙ put-whole (now (a .s)) (part (now (a .image)) (a .at) snapshotSize)
+    (start .pre .1 ∙ sym (length-part (now (a .image)) (a .at) snapshotSize (start .pre .0)))
 
 pub copy-snapshot-spec : {M : Type 1} → statement M
 copy-snapshot-spec =

@@ -16,7 +16,7 @@ use Rattle.snapshot.specs.Widths.{eventSize}
 use Rattle.snapshot.specs.EventBytes.{eventOf, stepEvent}
 use Rattle.snapshot.specs.Split.{splitState}
 use Rattle.snapshot.specs.declared.event.Event.{Event}
-use Rattle.snapshot.proofs.Sampled.{sample-told}
+use Rattle.snapshot.proofs.Sampled.{sample-read}
 use Rattle.snapshot.proofs.Moving.{holds-as}
 use Rattle.snapshot.proofs.split.step_over.Statement.{statement}
 use Rattle.snapshot.proofs.split.step_over.Tie as tie
@@ -36,7 +36,7 @@ asked-of c t =
     let told = c .before in
     let read = told .before in
     let fits : SFits w32 (read .read-event .result .value) = record { sfits = told .struct-told .given .1 .1 .0 .1 } in
-    sample-told fits (read .read-event .ensures) (c .is-sample .ensures) t
+    sample-read fits (read .read-event .ensures) (c .is-sample .ensures) t
 
 read-event-requires : tie.Need-read-event-requires
 read-event-requires c κs = search needs
@@ -70,8 +70,10 @@ returns c =
     let e = event-of asked in
     let d = held asked in
     let fits : SFits w32 (read .read-event .result .value) = record { sfits = levels .before .struct-told2 .given .1 .1 .0 .1 } in
+    let new =
+    levels .levels-of .ensures ∙ ap levelsOf (signed-unsigned fits) ∙ ap (λ (x : Event). levelsOf (x .value)) (read .read-event .ensures) in
     let next =
-    ap (λ (n : ℕ). sample n d) (levels .levels-of .ensures ∙ ap levelsOf (signed-unsigned fits) ∙ ap (λ (x : Event). levelsOf (x .value)) (read .read-event .ensures))
+    ap (λ (n : ℕ). sample n d) new
     ∙ sym (step-sample (e .kind) (e .sub) (e .value) d (asked-of asked (test .if1 .taken))) in
     holds-as (done .sample-over .last .0) (done .sample-over .last .1 .0) next (done .sample-over .ensures)
 

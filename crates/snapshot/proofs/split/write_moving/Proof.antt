@@ -21,7 +21,10 @@ slice-write-moving : tie.Need-slice-write-moving
 slice-write-moving c = search needs
 
 same-length : tie.Need-same-length
-same-length c = omega (arith, length-set (c .before .before .write-u32 .last .0) movingLevelsAt (c .before .before .before .before .before .before .before .before .before .args .levels))
+same-length c =
+    let flags = c .before .before in
+    let start = flags .before .before .before .before .before .before .before in
+    omega (arith, length-set (flags .write-u32 .last .0) movingLevelsAt (start .args .levels))
 
 returns : tie.Need-returns
 returns c =

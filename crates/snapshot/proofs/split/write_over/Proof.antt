@@ -48,7 +48,9 @@ same-length c =
     let second = c .before .before .before in
     let first = second .before .before .before .before .before in
     let args = first .before .before .before .before .before .args in
-    length-set (second .write-u322 .last .0) (args .at + levelsAt) (getD (now (args .moving)) movingLevelsAt 0) ∙ second .write-u322 .kept .0 ∙ first .write-u32 .kept .0
+    length-set (second .write-u322 .last .0) (args .at + levelsAt) (getD (now (args .moving)) movingLevelsAt 0)
+    ∙ second .write-u322 .kept .0
+    ∙ first .write-u32 .kept .0
 
 returns : tie.Need-returns
 unfolding total

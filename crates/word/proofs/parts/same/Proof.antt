@@ -61,7 +61,10 @@ loop-again c =
     let at-loop = turn .before in
     let checked = at-loop .before in
     let args = checked .before .args in
-    (search needs, next (args .a .now) (args .b .now) (checked .if1 .left) (at-loop .loop .all) (at-loop .loop .i) (turn .loop-test .taken) ∙ at-loop .loop .inv .1)
+    let all = at-loop .loop .all in (
+      search needs,
+      next (args .a .now) (args .b .now) (checked .if1 .left) all (at-loop .loop .i) (turn .loop-test .taken) ∙ at-loop .loop .inv .1,
+    )
 
 returns-2 : tie.Need-returns-2 Inv-loop μ-loop
 returns-2 c =
