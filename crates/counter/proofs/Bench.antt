@@ -10,5 +10,6 @@ use Rattle.counter.specs.Sample.{up, down, upFlags, downFlags, countedBy
 use Rattle.counter.specs.Bench.{bench}
 
 pub bench-holds : bench ≡ replicate 12 true
-unfolding bench fresh modeOf bit setBit clearBit merge presetWord causeWord unmasked enabled quiet started post finish postedFlags finishedFlags interrupt routineDone raise up down upFlags downFlags countedBy
+unfolding bench fresh modeOf bit setBit clearBit merge presetWord causeWord unmasked enabled quiet started
+    post finish postedFlags finishedFlags interrupt routineDone raise up down upFlags downFlags countedBy
 bench-holds = refl

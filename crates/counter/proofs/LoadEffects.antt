@@ -9,7 +9,8 @@ use Rattle.word.specs.Masks.{bit, setBit, clearBit}
 use Rattle.word.proofs.Masks.{bit-setBit, bit-clearBit}
 use Rattle.counter.specs.declared.state.Counter.{Counter}
 use Rattle.counter.specs.Parts.{flag, ED, LOADED}
-use Rattle.counter.specs.Loading.{firstBroken, rules, presetRules, First, AllPass, Accepted, Rejected, accepted, rejected, load, presetBroken, withPresets, presetAccepted, presetLoad}
+use Rattle.counter.specs.Loading.{firstBroken, rules, presetRules, First, AllPass, Accepted, Rejected, accepted, rejected, load, presetBroken}
+use Rattle.counter.specs.Loading.{withPresets, presetAccepted, presetLoad}
 use Rattle.counter.proofs.Exact.{load-er, load-refused, load-accepted, preset-er, preset-refused, preset-accepted}
 
 -- setting or clearing flag n leaves flag m

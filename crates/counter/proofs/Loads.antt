@@ -1,6 +1,6 @@
 -- Loading keeps a state well formed: what is loaded passed the rules, and ED goes with ER.
 use mathlib.Core.Path.{_≡_, _∙_}
-use mathlib.Core.Bool.{true, false, cond}
+use mathlib.Core.Bool.{true, false}
 use Prim.Native.Nat.{ℕ, _≤_, _<_, _^_}
 use native.Mathlib.Nat.{lt-of-le-of-lt}
 use borrow.Author.Tests.{eqb-true}
@@ -11,7 +11,8 @@ use Rattle.word.proofs.Branches.{cond-cases}
 use Rattle.counter.specs.declared.state.Settings.{Settings}
 use Rattle.counter.specs.declared.state.Counter.{Counter}
 use Rattle.counter.specs.Parts.{flag, ED, LOADED, withActive, withFlags}
-use Rattle.counter.specs.Loading.{rules, ruleCount, presetRules, brokenFrom, AllPass, firstBroken, presetBroken, withoutError, accepted, rejected, load, withPresets, presetAccepted, presetLoad}
+use Rattle.counter.specs.Loading.{rules, ruleCount, presetRules, brokenFrom, AllPass, firstBroken, presetBroken, withoutError, accepted}
+use Rattle.counter.specs.Loading.{rejected, load, withPresets, presetAccepted, presetLoad}
 use Rattle.counter.specs.WellFormed.{SettingsTyped}
 use Rattle.counter.proofs.FirstBroken.{broken-le, pass-exact}
 use Rattle.counter.proofs.Changes.{Well}
@@ -99,6 +100,7 @@ pub well-presetLoad : (c : Counter) → Well c → Well (presetLoad c)
 unfolding presetLoad
 well-presetLoad c w =
     let n : ℕ = presetBroken (c .staged) (c .active) in
-    cond-cases Well (flag c LOADED) (cond (eqb n 0) (presetAccepted c) (rejected n c)) c
-    (λ l. cond-cases Well (eqb n 0) (presetAccepted c) (rejected n c) (λ z. well-presets c w l (eqb-true n 0 z)) (λ z. well-rejected c n w (preset-number (c .staged) (c .active)) z))
+    cond-cases Well (flag c LOADED) _ _
+    (λ l. cond-cases Well (eqb n 0) (presetAccepted c) (rejected n c) (λ z. well-presets c w l (eqb-true n 0 z))
+    (λ z. well-rejected c n w (preset-number (c .staged) (c .active)) z))
     (λ l. w)

@@ -20,7 +20,7 @@ use Rattle.counter.specs.declared.state.Sampled.{Sampled}
 use Rattle.counter.specs.declared.state.Count.{Count}
 use Rattle.counter.specs.declared.state.Count.the-variants.{None, Up, Down}
 use Rattle.counter.specs.Parts.{FE, UIE, lowPreset, highPreset, overflow, causeCount, withAcc, withFlags, withLevels, upOnly, mode}
-use Rattle.counter.specs.Interrupts.{outputMask, presetWord, causeWord, unmasked, enabled, interrupt, withOutputs, raise}
+use Rattle.counter.specs.Interrupts.{outputMask, presetWord, causeWord, unmasked, enabled, withOutputs, raise}
 use Rattle.counter.specs.Sample.{counted, up, down, upOf, downOf, sampledAs, unmoved, countedBy, resets, count, sampled, sample}
 use Rattle.counter.specs.Events.{programWord}
 use Rattle.counter.proofs.Limits.{up-fits, down-fits}
@@ -69,8 +69,10 @@ enabled-cause flags cause h = go (eqb cause 1) (eqb cause 2) (eqb cause 3) (eqb 
 pub well-raise : (c : Counter) (cause : ℕ) → Well c → Well (raise cause c)
 unfolding raise
 well-raise c cause w =
-    let put : Well (withOutputs cause c) = well-out c w (causeWord cause (c .active .omb) (c .active .hpo) (c .active .lpo) (c .out)) (causeWord-lt cause (c .active .omb) (c .active .hpo) (c .active .lpo) (c .out) (w .formed .out)) in
-    cond-cases Well (enabled (c .flags) cause) (interrupt cause (withOutputs cause c)) (withOutputs cause c)
+    let a = c .active in
+    let put : Well (withOutputs cause c) =
+    well-out c w (causeWord cause (a .omb) (a .hpo) (a .lpo) (c .out)) (causeWord-lt cause (a .omb) (a .hpo) (a .lpo) (c .out) (w .formed .out)) in
+    cond-cases Well (enabled (c .flags) cause) _ _
     (λ e. well-interrupt (withOutputs cause c) put cause (enabled-cause (c .flags) cause e))
     (λ e. put)
 
@@ -137,5 +139,6 @@ module _ (c : Counter) (w : Well c) where
       let r : Sampled = sampled new c in
       let m : Moved c r = moved-sampled new in
       let stored : Well (withLevels new c) = well-levels c w new h in
-      let counted : Well (withAcc (r .acc) (withLevels new c)) = well-acc (withLevels new c) stored (r .acc) (m .acc) in
-      well-raise (withFlags (r .flags) (withAcc (r .acc) (withLevels new c))) (r .cause) (well-flags (withAcc (r .acc) (withLevels new c)) counted (r .flags) (m .flags))
+      let d : Counter = withAcc (r .acc) (withLevels new c) in
+      let counted : Well d = well-acc (withLevels new c) stored (r .acc) (m .acc) in
+      well-raise (withFlags (r .flags) d) (r .cause) (well-flags d counted (r .flags) (m .flags))

@@ -20,7 +20,8 @@ use Rattle.counter.specs.Desk.{queuedOf, empty}
 use Rattle.counter.specs.Parts.{AS, SP, FE, flag, on, off, withStaged, withFlags, noSettings, freshSettings, fresh}
 use Rattle.counter.specs.Loading.{firstBroken, accepted, rejected, load}
 use Rattle.counter.specs.Interrupts.{quiet}
-use Rattle.counter.specs.Events.{isZero, takesBit, takesZero, legalFlag, legal, levelsOf, wordOf, shortOf, staged, stagedWrite, device, setTo, deviceWrite, spRises, flagWrite, emptied, autoStart, enterRun, programWord, outputWrite, control, step}
+use Rattle.counter.specs.Events.{isZero, takesBit, takesZero, legalFlag, legal, levelsOf, wordOf, shortOf, staged, stagedWrite, device, setTo}
+use Rattle.counter.specs.Events.{deviceWrite, spRises, flagWrite, emptied, autoStart, enterRun, programWord, outputWrite, control, step}
 use Rattle.counter.specs.WellFormed.{SettingsTyped, Good, wellFormed, partsFormed, isNone}
 use Rattle.counter.proofs.Flags.{Other, other, kept-set, kept-clear, kept-quiet}
 use Rattle.counter.proofs.Legal.{flag-below}
@@ -118,8 +119,9 @@ well-autoStart : (c : Counter) → Well c → Well (autoStart c)
 unfolding autoStart
 well-autoStart c w =
     let n : ℕ = firstBroken (c .staged) in
+    let flags : ℕ = accepted c .flags in
     cond-cases Well (eqb n 0) (on FE (accepted c)) (rejected n c)
-    (λ z. well-flags (accepted c) (well-accepted c w (eqb-true n 0 z)) (setBit (accepted c .flags) FE) (kept-set (accepted c .flags) FE (other FE tt refl refl)))
+    (λ z. well-flags (accepted c) (well-accepted c w (eqb-true n 0 z)) (setBit flags FE) (kept-set flags FE (other FE tt refl refl)))
     (λ z. well-rejected c n w (first-number (c .staged)) z)
 
 well-enterRun : (c : Counter) → Well c → Well (enterRun c)

@@ -80,17 +80,13 @@ module _ (out n : ℕ) (h : out < 2 ^ 12) (l : 12 ≤ n) where
 -- ---- staged settings
 
 module _ (s : Settings) where
-  interrupt-staged : (cause : ℕ) (c : Counter) → interrupt cause (withStaged s c) ≡ withStaged s (interrupt cause c)
-  unfolding interrupt
-  interrupt-staged cause c = refl
+  cond-staged : (b : Bool) (x y : Counter) → cond b (withStaged s x) (withStaged s y) ≡ withStaged s (cond b x y)
+  cond-staged true x y = refl
+  cond-staged false x y = refl
 
   raise-staged : (cause : ℕ) (c : Counter) → raise cause (withStaged s c) ≡ withStaged s (raise cause c)
-  unfolding raise
-  raise-staged cause c = go (enabled (c .flags) cause)
-    where
-      go : (b : Bool) → cond b (interrupt cause (withStaged s (withOutputs cause c))) (withStaged s (withOutputs cause c)) ≡ withStaged s (cond b (interrupt cause (withOutputs cause c)) (withOutputs cause c))
-      go true = interrupt-staged cause (withOutputs cause c)
-      go false = refl
+  unfolding raise interrupt
+  raise-staged cause c = cond-staged (enabled (c .flags) cause) (interrupt cause (withOutputs cause c)) (withOutputs cause c)
 
   countedBy-staged : (way : Count) (c : Counter) → countedBy way (withStaged s c) ≡ countedBy way c
   unfolding countedBy

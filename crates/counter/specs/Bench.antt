@@ -9,7 +9,8 @@ use Rattle.counter.specs.declared.state.Counter.{Counter}
 use Rattle.counter.specs.declared.state.Count.{Count}
 use Rattle.counter.specs.declared.state.Count.the-variants.{Up, Down}
 use Rattle.counter.specs.Desk.{deskOf, first, second}
-use Rattle.counter.specs.Parts.{UIE, UIL, FE, LPI, HPI, OF, MD, LOADED, lowPreset, highPreset, underflow, overflow, withActive, withAcc, withOut, withDesk, flag, on, fresh}
+use Rattle.counter.specs.Parts.{UIE, UIL, FE, LPI, HPI, OF, MD, LOADED, lowPreset, highPreset, underflow, overflow, withActive, withAcc}
+use Rattle.counter.specs.Parts.{withOut, withDesk, flag, on, fresh}
 use Rattle.counter.specs.Interrupts.{routineDone, raise}
 use Rattle.counter.specs.Sample.{countedBy, after}
 

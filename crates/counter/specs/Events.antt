@@ -10,7 +10,8 @@ use Rattle.word.specs.TwosComplement.{signed, unsigned, eqZ}
 use Rattle.counter.specs.declared.state.Settings.{Settings}
 use Rattle.counter.specs.declared.state.Counter.{Counter}
 use Rattle.counter.specs.Desk.{empty}
-use Rattle.counter.specs.Parts.{AS, SP, FE, withStaged, withAcc, withOut, withFlags, withDesk, flag, on, off}
+use Rattle.counter.specs.Parts.{AS, SP, FE, withPfn, withMode, withHip, withLop, withOvf, withUnf, withOmb, withHpo, withLpo, withStaged}
+use Rattle.counter.specs.Parts.{withAcc, withOut, withFlags, withDesk, flag, on, off}
 use Rattle.counter.specs.Loading.{firstBroken, accepted, rejected, load, presetLoad}
 use Rattle.counter.specs.Interrupts.{outputMask, quiet, routineDone}
 use Rattle.counter.specs.Sample.{sample}
@@ -91,12 +92,12 @@ shortOf v = signed w16 (wordOf v)
 -- 2: a staged write
 unfoldable pub staged : ℕ → ℤ → Settings → Settings
 staged sub v s =
-    cond (eqb sub 1) (record { pfn = s .pfn; mode = s .mode; hip = v; lop = s .lop; ovf = s .ovf; unf = s .unf; omb = s .omb; hpo = s .hpo; lpo = s .lpo })
-    (cond (eqb sub 2) (record { pfn = s .pfn; mode = s .mode; hip = s .hip; lop = v; ovf = s .ovf; unf = s .unf; omb = s .omb; hpo = s .hpo; lpo = s .lpo })
-    (cond (eqb sub 3) (record { pfn = s .pfn; mode = s .mode; hip = s .hip; lop = s .lop; ovf = v; unf = s .unf; omb = s .omb; hpo = s .hpo; lpo = s .lpo })
-    (cond (eqb sub 4) (record { pfn = s .pfn; mode = s .mode; hip = s .hip; lop = s .lop; ovf = s .ovf; unf = v; omb = s .omb; hpo = s .hpo; lpo = s .lpo })
-    (cond (eqb sub 5) (record { pfn = s .pfn; mode = s .mode; hip = s .hip; lop = s .lop; ovf = s .ovf; unf = s .unf; omb = s .omb; hpo = wordOf v; lpo = s .lpo })
-    (cond (eqb sub 6) (record { pfn = s .pfn; mode = s .mode; hip = s .hip; lop = s .lop; ovf = s .ovf; unf = s .unf; omb = s .omb; hpo = s .hpo; lpo = wordOf v }) s)))))
+    cond (eqb sub 1) (withHip v s)
+    (cond (eqb sub 2) (withLop v s)
+    (cond (eqb sub 3) (withOvf v s)
+    (cond (eqb sub 4) (withUnf v s)
+    (cond (eqb sub 5) (withHpo (wordOf v) s)
+    (cond (eqb sub 6) (withLpo (wordOf v) s) s)))))
 
 unfoldable pub stagedWrite : ℕ → ℤ → Counter → Counter
 stagedWrite sub v c = withStaged (staged sub v (c .staged)) c
@@ -104,9 +105,8 @@ stagedWrite sub v c = withStaged (staged sub v (c .staged)) c
 -- 3: the programming device's settings, sub 1 to 3
 unfoldable pub device : ℕ → ℤ → Settings → Settings
 device sub v s =
-    cond (eqb sub 1) (record { pfn = shortOf v; mode = s .mode; hip = s .hip; lop = s .lop; ovf = s .ovf; unf = s .unf; omb = s .omb; hpo = s .hpo; lpo = s .lpo })
-    (cond (eqb sub 2) (record { pfn = s .pfn; mode = shortOf v; hip = s .hip; lop = s .lop; ovf = s .ovf; unf = s .unf; omb = s .omb; hpo = s .hpo; lpo = s .lpo })
-    (cond (eqb sub 3) (record { pfn = s .pfn; mode = s .mode; hip = s .hip; lop = s .lop; ovf = s .ovf; unf = s .unf; omb = wordOf v; hpo = s .hpo; lpo = s .lpo }) s))
+    cond (eqb sub 1) (withPfn (shortOf v) s)
+    (cond (eqb sub 2) (withMode (shortOf v) s) (cond (eqb sub 3) (withOmb (wordOf v) s) s))
 
 -- flag n at the value's level
 abbrev pub setTo : ℕ → ℤ → Counter → Counter

@@ -9,7 +9,8 @@ use Rattle.counter.specs.declared.desk.Outcome.the-variants.{Starts, Wai
 use Rattle.counter.specs.declared.desk.Next.{Next}
 use Rattle.counter.specs.declared.desk.Next.the-variants.{Cause, Nothing}
 use Rattle.counter.specs.Desk.{post, finish}
-use Rattle.counter.specs.Parts.{UIE, UIL, FE, LPM, HPM, UFM, OFM, LPI, HPI, UFI, OFI, lowPreset, highPreset, underflow, overflow, withOut, withFlags, withDesk}
+use Rattle.counter.specs.Parts.{UIE, UIL, FE, LPM, HPM, UFM, OFM, LPI, HPI, UFI, OFI, lowPreset, highPreset, underflow, overflow, withOut}
+use Rattle.counter.specs.Parts.{withFlags, withDesk}
 
 -- ---- outputs
 

@@ -9,7 +9,7 @@ use lib.IntN.{ℤ, pos}
 use lib.Signed.{ltZ, leZ}
 use Rattle.counter.specs.declared.state.Settings.{Settings}
 use Rattle.counter.specs.declared.state.Counter.{Counter}
-use Rattle.counter.specs.Parts.{withActive, withEr, flag, on, off, ED, LOADED, noSettings, modeOf, upOnly}
+use Rattle.counter.specs.Parts.{withHip, withLop, withHpo, withLpo, withActive, withEr, flag, on, off, ED, LOADED, noSettings, modeOf, upOnly}
 
 -- ---- the rules, each as its row states it
 
@@ -37,12 +37,16 @@ rule5 m lop unf = upOnly m || leZ unf lop
 abbrev pub presetTests : ℕ → ℤ → ℤ → ℤ → ℤ → List Bool
 presetTests m hip lop ovf unf = rule3 m hip lop ∷ rule4 hip ovf ∷ rule5 m lop unf ∷ []
 
+-- the same for the presets of s with MOD, OVF and UNF of a
+abbrev pub presetRules : Settings → Settings → List Bool
+presetRules s a = presetTests (modeOf (a .mode)) (s .hip) (s .lop) (a .ovf) (a .unf)
+
 -- the tests of all rules, in their order
 abbrev pub rules : Settings → List Bool
 rules s =
     rule1 (s .pfn)
     ∷ rule2 (modeOf (s .mode))
-    ∷ presetTests (modeOf (s .mode)) (s .hip) (s .lop) (s .ovf) (s .unf)
+    ∷ presetRules s s
 
 -- how many rules there are, whatever the settings; ER is at most this
 abbrev pub ruleCount : ℕ
@@ -77,16 +81,12 @@ load c = cond (eqb (firstBroken (c .staged)) 0) (accepted c) (rejected (firstBro
 
 -- ---- the preset load (HSL): staged HIP, LOP, HPO, LPO with active MOD, OVF, UNF
 
--- rules 3 to 5
-abbrev pub presetRules : Settings → Settings → List Bool
-presetRules s a = presetTests (modeOf (a .mode)) (s .hip) (s .lop) (a .ovf) (a .unf)
-
 unfoldable pub presetBroken : Settings → Settings → ℕ
 presetBroken s a = brokenFrom 3 (presetRules s a)
 
 -- active settings with the presets of the staged ones
 abbrev pub withPresets : Settings → Settings → Settings
-withPresets s a = record { pfn = a .pfn; mode = a .mode; hip = s .hip; lop = s .lop; ovf = a .ovf; unf = a .unf; omb = a .omb; hpo = s .hpo; lpo = s .lpo }
+withPresets s a = withHip (s .hip) (withLop (s .lop) (withHpo (s .hpo) (withLpo (s .lpo) a)))
 
 abbrev pub presetAccepted : Counter → Counter
 presetAccepted c = withoutError (withActive (withPresets (c .staged) (c .active)) c)

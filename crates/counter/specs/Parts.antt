@@ -89,6 +89,35 @@ overflow = 4
 abbrev pub causeCount : ℕ
 causeCount = 4
 
+-- ---- settings with one part changed
+
+abbrev pub withPfn : ℤ → Settings → Settings
+withPfn v s = record { pfn = v; mode = s .mode; hip = s .hip; lop = s .lop; ovf = s .ovf; unf = s .unf; omb = s .omb; hpo = s .hpo; lpo = s .lpo }
+
+abbrev pub withMode : ℤ → Settings → Settings
+withMode v s = record { pfn = s .pfn; mode = v; hip = s .hip; lop = s .lop; ovf = s .ovf; unf = s .unf; omb = s .omb; hpo = s .hpo; lpo = s .lpo }
+
+abbrev pub withHip : ℤ → Settings → Settings
+withHip v s = record { pfn = s .pfn; mode = s .mode; hip = v; lop = s .lop; ovf = s .ovf; unf = s .unf; omb = s .omb; hpo = s .hpo; lpo = s .lpo }
+
+abbrev pub withLop : ℤ → Settings → Settings
+withLop v s = record { pfn = s .pfn; mode = s .mode; hip = s .hip; lop = v; ovf = s .ovf; unf = s .unf; omb = s .omb; hpo = s .hpo; lpo = s .lpo }
+
+abbrev pub withOvf : ℤ → Settings → Settings
+withOvf v s = record { pfn = s .pfn; mode = s .mode; hip = s .hip; lop = s .lop; ovf = v; unf = s .unf; omb = s .omb; hpo = s .hpo; lpo = s .lpo }
+
+abbrev pub withUnf : ℤ → Settings → Settings
+withUnf v s = record { pfn = s .pfn; mode = s .mode; hip = s .hip; lop = s .lop; ovf = s .ovf; unf = v; omb = s .omb; hpo = s .hpo; lpo = s .lpo }
+
+abbrev pub withOmb : ℕ → Settings → Settings
+withOmb w s = record { pfn = s .pfn; mode = s .mode; hip = s .hip; lop = s .lop; ovf = s .ovf; unf = s .unf; omb = w; hpo = s .hpo; lpo = s .lpo }
+
+abbrev pub withHpo : ℕ → Settings → Settings
+withHpo w s = record { pfn = s .pfn; mode = s .mode; hip = s .hip; lop = s .lop; ovf = s .ovf; unf = s .unf; omb = s .omb; hpo = w; lpo = s .lpo }
+
+abbrev pub withLpo : ℕ → Settings → Settings
+withLpo w s = record { pfn = s .pfn; mode = s .mode; hip = s .hip; lop = s .lop; ovf = s .ovf; unf = s .unf; omb = s .omb; hpo = s .hpo; lpo = w }
+
 -- ---- the counter with one part changed
 
 abbrev pub withStaged : Settings → Counter → Counter
@@ -133,7 +162,8 @@ abbrev pub noSettings : Settings
 noSettings = record { pfn = pos 0; mode = pos 0; hip = pos 0; lop = pos 0; ovf = pos 0; unf = pos 0; omb = 0; hpo = 0; lpo = 0 }
 
 abbrev pub freshSettings : Settings
-freshSettings = record { pfn = pos 0; mode = pos 0; hip = pos 2147483647; lop = negsuc 2147483647; ovf = pos 2147483647; unf = negsuc 2147483647; omb = 0; hpo = 0; lpo = 0 }
+freshSettings =
+    withHip (pos 2147483647) (withLop (negsuc 2147483647) (withOvf (pos 2147483647) (withUnf (negsuc 2147483647) noSettings)))
 
 -- LPM, HPM, UFM and OFM are 1; nothing is loaded
 unfoldable pub fresh : Counter

@@ -11,7 +11,8 @@ use Rattle.counter.specs.declared.state.Counted.{Counted}
 use Rattle.counter.specs.declared.state.Sampled.{Sampled}
 use Rattle.counter.specs.declared.state.Count.{Count}
 use Rattle.counter.specs.declared.state.Count.the-variants.{None, Up, Down}
-use Rattle.counter.specs.Parts.{CE, DIR, UF, OF, MD, LOADED, lowPreset, highPreset, underflow, overflow, withAcc, withFlags, withLevels, flag, upOnly, mode}
+use Rattle.counter.specs.Parts.{CE, DIR, UF, OF, MD, LOADED, lowPreset, highPreset, underflow, overflow, withAcc, withFlags, withLevels, flag}
+use Rattle.counter.specs.Parts.{upOnly, mode}
 use Rattle.counter.specs.Interrupts.{raise}
 
 -- ---- edges compare stored with new levels

@@ -1,5 +1,4 @@
 -- `counter::causes::raise` meets its contract: outputs first, then an interrupt if the cause is enabled.
-use mathlib.Core.Path.{ap, _∙_}
 use borrow.Author.Needs.{needs}
 use Rattle.counter.specs.Interrupts.{interrupt, raise}
 use Rattle.word.proofs.Branches.{told}
@@ -19,7 +18,7 @@ returns : tie.Need-returns
 unfolding raise
 returns c =
     let tested = c .before .before in
-    rw (told (tested .enabled .ensures) (c .before .if1 .taken)) (c .interrupt .ensures ∙ ap (interrupt (tested .before .before .args .cause)) (tested .before .with-outputs .ensures))
+    rw (told (tested .enabled .ensures) (c .before .if1 .taken), ← tested .before .with-outputs .ensures) (c .interrupt .ensures)
 
 returns-2 : tie.Need-returns-2
 unfolding raise

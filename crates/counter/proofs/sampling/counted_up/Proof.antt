@@ -18,8 +18,14 @@ counted c =
     let k = c .before .before .before .before .before .before .before .before .args .c in
     let t = counter-told k _ (c .before .before .before .before .struct-told .given) in
     let a = settings-told (k .active) _ (c .before .before .before .struct-told2 .given) in
-    c .up .ensures
-    ∙ simp (single (c .before .before .before .before .before), signed-unsigned (t .acc), signed-unsigned (a .hip), signed-unsigned (a .ovf), signed-unsigned (a .unf))
+    simp (
+      c .up .ensures,
+      single (c .before .before .before .before .before),
+      signed-unsigned (t .acc),
+      signed-unsigned (a .hip),
+      signed-unsigned (a .ovf),
+      signed-unsigned (a .unf),
+    )
 
 mode-requires : tie.Need-mode-requires
 mode-requires c κs = search needs
