@@ -90,6 +90,11 @@ pub split-parts : (b m : List ℕ)
 unfolding splitState decode unpack
 split-parts b m = ap (λ (vs : List ℕ). stateOf (replace movingIndices vs (unpack snapshotLayout b))) (unpack-from movingLayout m 0 0)
 
+-- what is beside the snapshot counts for nothing once all three are replaced
+pub split-with : (acc : ℤ) (flags levels : ℕ) (b m : List ℕ)
+    → withFlags flags (withAcc acc (withLevels levels (splitState b m))) ≡ withFlags flags (withAcc acc (withLevels levels (decode b)))
+split-with acc flags levels b m = ap (λ (d : Counter). withFlags flags (withAcc acc (withLevels levels d))) (split-parts b m)
+
 -- other numbers beside the same snapshot
 pub split-moving : (acc : ℤ) (flags levels : ℕ) (b m : List ℕ) → SFits w32 acc → flags < 2 ^ 32 → levels < 256
     → splitState b (pack movingLayout (unsigned w32 acc ∷ flags ∷ levels ∷ [])) ≡ withFlags flags (withAcc acc (withLevels levels (splitState b m)))
@@ -97,7 +102,7 @@ unfolding decode unpack
 split-moving acc flags levels b m fits word byte =
     split-pack b (more (fits-unsigned fits .fits) (more word (more byte none)))
     ∙ ap (λ (v : ℤ). withFlags flags (withAcc v (withLevels levels (decode b)))) (signed-unsigned fits)
-    ∙ sym (ap (λ (d : Counter). withFlags flags (withAcc acc (withLevels levels d))) (split-parts b m))
+    ∙ sym (split-with acc flags levels b m)
 
 -- written side by side
 pub moving-written : (m : List ℕ) {t u w : List ℕ} {n a g f l : ℕ} → length m ≡ movingSize → n ≡ a → t ≡ put m 0 (toBytes 4 n)

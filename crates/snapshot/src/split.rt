@@ -121,24 +121,17 @@ pub fn write_snapshot(image: &mut [u8], at: usize, s: &[u8], moving: &[u8])
     write_over(image, at, moving);
 }
 
-// The state with other ACC, flags and levels, and then the cause raised, over both.
-fn raise_over(
-    c: Counter,
-    s: &mut [u8],
-    moving: &mut [u8],
-    acc: i32,
-    flags: u32,
-    levels: u8,
-    cause: u8,
-)
+// Another ACC, flags and levels, and then the cause. The state is read again here: kept from before the sample, it would have to be read
+// whole for every sample.
+fn raise_over(s: &mut [u8], moving: &mut [u8], acc: i32, flags: u32, levels: u8, cause: u8)
     requires { ⌜ (length (now s) ≡ snapshotSize) × (length (now moving) ≡ movingSize) ⌝ }
-    ensures { λ _. ⌜ HoldsIfGood (raise cause (withFlags flags (withAcc acc (withLevels levels c)))) (now (s .exit)) (now (moving .exit)) ⌝ }
+    ensures { λ _. ⌜ HoldsIfGood (raise cause (withFlags flags (withAcc acc (withLevels levels (decode (now (s .entry))))))) (now (s .exit)) (now (moving .exit)) ⌝ }
 {
-    let mut d = c;
-    d.acc = acc;
-    d.flags = flags;
-    d.levels = levels;
-    write_state(causes::raise(d, cause), s, moving);
+    let mut c = codec::decode(s, 0);
+    c.acc = acc;
+    c.flags = flags;
+    c.levels = levels;
+    write_state(causes::raise(c, cause), s, moving);
 }
 
 // A sample; where it raises no cause, the snapshot's bytes are not touched.
@@ -146,12 +139,11 @@ fn sample_over(s: &mut [u8], moving: &mut [u8], new: u8)
     requires { ⌜ (length (now s) ≡ snapshotSize) × (length (now moving) ≡ movingSize) ⌝ }
     ensures { λ _. ⌜ HoldsIfGood (sample new (splitState (now (s .entry)) (now (moving .entry)))) (now (s .exit)) (now (moving .exit)) ⌝ }
 {
-    let c = read_state(s, moving);
-    let r = sampling::sampled(c, new);
+    let r = sampling::sampled(read_state(s, moving), new);
     if r.cause == 0 {
         write_moving(moving, r.acc, r.flags, new);
     } else {
-        raise_over(c, s, moving, r.acc, r.flags, new, r.cause);
+        raise_over(s, moving, r.acc, r.flags, new, r.cause);
     }
 }
 

@@ -1,6 +1,6 @@
 -- `snapshot::split::sample_over` meets its contract: what is stored is the sample where no cause is raised, and the cause is raised on it where there is one.
 use borrow.Author.Needs.{needs}
-use mathlib.Core.Path.{_≡_, ap, ap₂, _∙_}
+use mathlib.Core.Path.{_≡_, sym, ap, _∙_}
 use mathlib.Core.List.{[], _∷_}
 use lib.IntN.{ℤ}
 use denote.Ref.{now}
@@ -14,8 +14,9 @@ use Rattle.counter.specs.Interrupts.{raise}
 use Rattle.counter.specs.Sample.{sampled}
 use Rattle.counter.proofs.Told.{sampled-told}
 use Rattle.snapshot.specs.Widths.{movingLayout}
+use Rattle.snapshot.specs.Snapshots.{decode}
 use Rattle.snapshot.specs.Split.{splitState}
-use Rattle.snapshot.proofs.Moving.{holds-as, split-moving}
+use Rattle.snapshot.proofs.Moving.{holds-as, split-moving, split-with}
 use Rattle.snapshot.proofs.Sampled.{sample-quiet, sample-raised}
 use Rattle.snapshot.proofs.split.sample_over.Statement.{statement}
 use Rattle.snapshot.proofs.split.sample_over.Tie as tie
@@ -79,10 +80,10 @@ returns-2 c =
     let new = start .args .new in
     let fits = sampled-told r _ (told .struct-told2 .given) in
     let next =
-    ap₂ (λ (v : ℤ) (d : Counter). raise (r .cause) (withFlags (r .flags) (withAcc v (withLevels new d)))) (signed-unsigned fits)
-    (made .before .read-state .ensures)
+    ap (λ (v : ℤ). raise (r .cause) (withFlags (r .flags) (withAcc v (withLevels new (decode (now (start .args .s))))))) (signed-unsigned fits)
+    ∙ ap (raise (r .cause)) (sym (split-with (r .acc) (r .flags) new (now (start .args .s)) (now (start .args .moving))))
     ∙ sample-raised new (held made) r (made-of made) in
-    holds-as (done .raise-over .last .1 .0) (done .raise-over .last .1 .1 .0) next (done .raise-over .ensures)
+    holds-as (done .raise-over .last .0) (done .raise-over .last .1 .0) next (done .raise-over .ensures)
 
 pub sample-over-spec : {M : Type 1} → statement M
 sample-over-spec =
