@@ -2,11 +2,11 @@
 use mathlib.Core.Bool.{Bool, cond}
 use mathlib.Core.List.{List, [], _∷_, _++_}
 use lib.IntN.{ℤ, pos}
-use lib.ListN.{getD}
 use mir.Syntax.{w32}
 use Rattle.word.specs.TwosComplement.{signed}
 use Rattle.counter.specs.declared.state.Settings.{Settings}
 use Rattle.counter.specs.declared.state.Counter.{Counter}
+use Rattle.counter.specs.Desk.{first, second}
 use Rattle.counter.specs.Shown.{uix, uip, cu, cd, hpr, lpr}
 
 -- PFN, MOD, HIP, LOP, OVF, UNF, OMB, HPO, LPO
@@ -22,9 +22,9 @@ storedFields c =
     ∷ pos (c .er)
     ∷ signed w32 (c .flags)
     ∷ pos (c .levels)
-    ∷ pos (c .running)
-    ∷ pos (getD (c .waiting) 0 0)
-    ∷ pos (getD (c .waiting) 1 0)
+    ∷ pos (c .desk .running)
+    ∷ pos (first (c .desk))
+    ∷ pos (second (c .desk))
     ∷ []
 
 abbrev pub bitField : Bool → ℤ

@@ -38,14 +38,15 @@ fn wide(b: u8) -> i32
 fn stored_row(c: Counter) -> [i32; 8]
     ensures { λ r. ⌜ r ≡ storedFields c ⌝ }
 {
-    let waiting = c.waiting;
+    let desk = c.desk;
+    let waiting = desk.waiting;
     [
         c.acc,
         c.out as i32,
         c.er as i32,
         sign::i32_of(c.flags),
         wide(c.levels),
-        wide(c.running),
+        wide(desk.running),
         wide(waiting[0]),
         wide(waiting[1]),
     ]

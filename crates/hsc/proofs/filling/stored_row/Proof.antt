@@ -8,11 +8,11 @@ use Rattle.hsc.proofs.Widened.{short-pos}
 use Rattle.hsc.proofs.filling.stored_row.Statement.{statement}
 use Rattle.hsc.proofs.filling.stored_row.Tie as tie
 
-cast-t3 : tie.Need-cast-t3
-cast-t3 c = search needs
-
 cast-t4 : tie.Need-cast-t4
 cast-t4 c = search needs
+
+cast-t5 : tie.Need-cast-t5
+cast-t5 c = search needs
 
 i32-of-requires : tie.Need-i32-of-requires
 i32-of-requires c κs = search needs
@@ -42,7 +42,7 @@ returns c =
     let running = first .before in
     let levels = running .before in
     let flags = levels .before in
-    let start = flags .before .before .before .before in
+    let start = flags .before .before .before .before .before in
     let told = c .struct-told .given in
     let typed = counter-told (start .args .c) _ told in
     λ i. signed-unsigned (typed .acc) i
@@ -59,8 +59,8 @@ pub stored-row-spec : {M : Type 1} → statement M
 stored-row-spec =
     tie.close
     (tie.spec
-    cast-t3
     cast-t4
+    cast-t5
     i32-of-requires
     wide-requires
     wide-requires-2
