@@ -7,7 +7,7 @@ use lib.Dec.{eqb}
 use lib.IntN.{ℤ}
 use Rattle.counter.specs.declared.state.Counter.{Counter}
 use Rattle.counter.specs.Sample.{sample}
-use Rattle.counter.specs.Events.{isLevels, legal, isSample, levelsOf, control, apply, step, stepControl}
+use Rattle.counter.specs.Events.{isLevels, legal, isSample, levelsOf, control, step, stepControl}
 
 module _ (kind sub : ℕ) (v : ℤ) where
   -- of kind 1, the legal events are the samples
@@ -27,11 +27,11 @@ module _ (kind sub : ℕ) (v : ℤ) where
 
   module _ (c : Counter) where
     pub step-sample : isSample kind sub v ≡ true → step kind sub v c ≡ sample (levelsOf v) c
-    unfolding step apply
+    unfolding step
     step-sample e = rw (legal-sample e, kind-1 e)
 
     pub step-other : isSample kind sub v ≡ false → step kind sub v c ≡ stepControl kind sub v c
-    unfolding step apply stepControl
+    unfolding step stepControl
     step-other e = go (eqb kind 1) refl
       where
         go : (b : Bool) → eqb kind 1 ≡ b

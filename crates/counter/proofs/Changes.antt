@@ -7,7 +7,7 @@ use mir.Val.{SFits}
 use Rattle.counter.specs.declared.state.Settings.{Settings}
 use Rattle.counter.specs.declared.state.Counter.{Counter}
 use Rattle.counter.specs.Parts.{withStaged, withAcc, withOut, withFlags, withLevels}
-use Rattle.counter.specs.WellFormed.{activeFormed, SettingsTyped, Typed, Good}
+use Rattle.counter.specs.WellFormed.{SettingsTyped, Typed, Good}
 use Rattle.counter.proofs.Flags.{Kept}
 use Rattle.counter.proofs.Formed.{Formed, formed-parts, parts-formed}
 
@@ -32,7 +32,6 @@ module _ (c : Counter) (w : Well c) where
   t = w .typed
 
   pub well-levels : (n : ℕ) → n ≤ 15 → Well (withLevels n c)
-  unfolding activeFormed
   well-levels n h =
       record {
         formed = record { flags = f .flags; out = f .out; levels = h; causes = f .causes; er = f .er; ed = f .ed; active = f .active };
@@ -40,7 +39,6 @@ module _ (c : Counter) (w : Well c) where
       }
 
   pub well-acc : (v : ℤ) → SFits w32 v → Well (withAcc v c)
-  unfolding activeFormed
   well-acc v h =
       record {
         formed = record { flags = f .flags; out = f .out; levels = f .levels; causes = f .causes; er = f .er; ed = f .ed; active = f .active };
@@ -48,7 +46,6 @@ module _ (c : Counter) (w : Well c) where
       }
 
   pub well-staged : (s : Settings) → SettingsTyped s → Well (withStaged s c)
-  unfolding activeFormed
   well-staged s h =
       record {
         formed = record { flags = f .flags; out = f .out; levels = f .levels; causes = f .causes; er = f .er; ed = f .ed; active = f .active };
@@ -56,7 +53,6 @@ module _ (c : Counter) (w : Well c) where
       }
 
   pub well-out : (n : ℕ) → n < 2 ^ 12 → Well (withOut n c)
-  unfolding activeFormed
   well-out n h =
       record {
         formed = record { flags = f .flags; out = h; levels = f .levels; causes = f .causes; er = f .er; ed = f .ed; active = f .active };
@@ -65,7 +61,6 @@ module _ (c : Counter) (w : Well c) where
 
   -- flags other than ED and LOADED
   pub well-flags : (n : ℕ) → Kept (c .flags) n → Well (withFlags n c)
-  unfolding activeFormed
   well-flags n k =
       record {
         formed = record {

@@ -6,8 +6,13 @@ use native.Mathlib.Nat.{lt-of-le-of-lt, lt-trans}
 use lib.Dec.{T, eqb, ltb, lit<}
 use Rattle.word.specs.Masks.{bit, setBit, clearBit}
 use Rattle.word.proofs.Masks.{bit-setBit, bit-clearBit, setBit-lt, clearBit-le}
-use Rattle.counter.specs.Parts.{ED, LOADED, DIR, UF, OF, MD, LPI, HPI, UFI, OFI, lowPreset, highPreset, underflow, overflow}
-use Rattle.counter.specs.Interrupts.{quiet, started}
+use Rattle.word.proofs.Branches.{cond-cases}
+use Rattle.counter.specs.declared.desk.Outcome.{Outcome}
+use Rattle.counter.specs.declared.desk.Outcome.the-variants.{Starts, Waits, Lost}
+use Rattle.counter.specs.declared.desk.Next.{Next}
+use Rattle.counter.specs.declared.desk.Next.the-variants.{Cause, Nothing}
+use Rattle.counter.specs.Parts.{UIL, ED, LOADED, DIR, UF, OF, MD, LPI, HPI, UFI, OFI, lowPreset, highPreset, underflow, overflow}
+use Rattle.counter.specs.Interrupts.{quiet, started, postedFlags, finishedFlags}
 use Rattle.counter.specs.Sample.{upFlags, downFlags}
 
 pub record Kept (w v : ℕ) : Type 0 where
@@ -52,24 +57,21 @@ other n t e l = record { small = lit< t; not-ed = e; not-loaded = l }
 
 -- ---- the flags of counting and of causes
 
-pub kept-cond : {u v w : ℕ} (b : Bool) → Kept u v → Kept u w → Kept u (cond b v w)
-kept-cond true p q = p
-kept-cond false p q = q
-
 pub kept-upFlags : (single : Bool) (cause w : ℕ) → Kept w (upFlags single cause w)
 unfolding upFlags
 kept-upFlags single cause w =
     let up : ℕ = setBit w DIR in
     let dir : Kept w up = kept-set w DIR (other DIR tt refl refl) in
-    kept-cond (eqb cause overflow) (kept-trans w up (setBit up OF) dir (kept-set up OF (other OF tt refl refl)))
-    (kept-cond (eqb cause highPreset && single) (kept-trans w up (setBit up MD) dir (kept-set up MD (other MD tt refl refl))) dir)
+    let more : (n : ℕ) → Other n → Kept w (setBit up n) = λ n o. kept-trans w up (setBit up n) dir (kept-set up n o) in
+    cond-cases (Kept w) (eqb cause overflow) _ _ (λ e. more OF (other OF tt refl refl))
+    (λ e. cond-cases (Kept w) (eqb cause highPreset && single) _ _ (λ e. more MD (other MD tt refl refl)) (λ e. dir))
 
 pub kept-downFlags : (cause w : ℕ) → Kept w (downFlags cause w)
 unfolding downFlags
 kept-downFlags cause w =
     let down : ℕ = clearBit 32 w DIR in
     let dir : Kept w down = kept-clear w DIR (other DIR tt refl refl) in
-    kept-cond (eqb cause underflow) (kept-trans w down (setBit down UF) dir (kept-set down UF (other UF tt refl refl))) dir
+    cond-cases (Kept w) (eqb cause underflow) _ _ (λ e. kept-trans w down (setBit down UF) dir (kept-set down UF (other UF tt refl refl))) (λ e. dir)
 
 pub kept-quiet : (w : ℕ) → Kept w (quiet w)
 unfolding quiet
@@ -84,9 +86,21 @@ kept-quiet w =
 pub kept-started : (cause w : ℕ) → Kept w (started cause w)
 unfolding started
 kept-started cause w =
-    kept-cond (eqb cause lowPreset) (start LPI (other LPI tt refl refl))
-    (kept-cond (eqb cause highPreset) (start HPI (other HPI tt refl refl))
-    (kept-cond (eqb cause underflow) (start UFI (other UFI tt refl refl)) (kept-cond (eqb cause overflow) (start OFI (other OFI tt refl refl)) (kept-quiet w))))
+    cond-cases (Kept w) (eqb cause lowPreset) _ _ (λ e. start LPI (other LPI tt refl refl))
+    (λ e. cond-cases (Kept w) (eqb cause highPreset) _ _ (λ e. start HPI (other HPI tt refl refl))
+    (λ e. cond-cases (Kept w) (eqb cause underflow) _ _ (λ e. start UFI (other UFI tt refl refl))
+    (λ e. cond-cases (Kept w) (eqb cause overflow) _ _ (λ e. start OFI (other OFI tt refl refl)) (λ e. kept-quiet w))))
   where
     start : (n : ℕ) → Other n → Kept w (setBit (quiet w) n)
     start n o = kept-trans w (quiet w) (setBit (quiet w) n) (kept-quiet w) (kept-set (quiet w) n o)
+
+pub kept-posted : (outcome : Outcome) (cause w : ℕ) → Kept w (postedFlags outcome cause w)
+unfolding postedFlags
+kept-posted Starts cause w = kept-started cause w
+kept-posted Waits cause w = kept-refl w
+kept-posted Lost cause w = kept-set w UIL (other UIL tt refl refl)
+
+pub kept-finished : (next : Next) (w : ℕ) → Kept w (finishedFlags next w)
+unfolding finishedFlags
+kept-finished (Cause cause) w = kept-started cause w
+kept-finished Nothing w = kept-refl w

@@ -1,26 +1,16 @@
 -- A well-formed state by its parts: the tests of the definition, each as the fact that it decides.
 use mathlib.Core.Path.{_≡_, refl}
-use mathlib.Core.Bool.{Bool, true, false, not, _&&_, _||_, Bool·beq, false≢true}
-use Prim.Native.Nat.{ℕ, _<_, _≤_, _^_}
-use borrow.Author.Tests.{ltb-true, leb-true, lt-ltb, le-leb}
+use mathlib.Core.Bool.{Bool, true, false, not, Bool·beq, and-eq-true-iff, false≢true}
+use Prim.Native.Nat.{_<_, _≤_, _^_}
+use borrow.Author.Tests.{ltb-true, leb-true, eqb-true, lt-ltb, le-leb, eq-eqb}
 use lib.Dec.{eqb}
-use lib.ListN.{getD}
+use Rattle.counter.specs.declared.desk.Desk.{Desk}
 use Rattle.counter.specs.declared.state.Counter.{Counter}
-use Rattle.counter.specs.Parts.{flag, ED}
-use Rattle.counter.specs.WellFormed.{activeFormed, queueFormed, causesFormed, errorFormed, wellFormed}
-
--- ---- tests joined by `&&`
-
-pub first : (a b : Bool) → (a && b) ≡ true → a ≡ true
-first true b h = refl
-first false b h = h
-
-pub second : (a b : Bool) → (a && b) ≡ true → b ≡ true
-second true b h = h
-second false b h = absurd (false≢true h)
-
-pub both : {a b : Bool} → a ≡ true → b ≡ true → (a && b) ≡ true
-both p q = rw (p, q)
+use Rattle.counter.specs.Desk.{first, second, queuedOf}
+use Rattle.counter.specs.Parts.{flag, ED, causeCount}
+use Rattle.counter.specs.Loading.{ruleCount}
+use Rattle.counter.specs.WellFormed.{activeFormed, partsFormed, wellFormed}
+use Rattle.counter.proofs.Queue.{Causes}
 
 same : (a b : Bool) → Bool·beq a b ≡ true → a ≡ b
 same true true h = refl
@@ -34,46 +24,67 @@ same-refl false = refl
 
 -- ---- the parts
 
--- a first waiting cause only with one running
-pub record Causes (running first second queued : ℕ) : Type 0 where
-  pub small : running ≤ 4
-  pub queue : queueFormed first second queued ≡ true
-  pub served : (eqb queued 0 || not (eqb running 0)) ≡ true
-
 pub record Formed (c : Counter) : Type 0 where
   pub flags : c .flags < 2 ^ 20
   pub out : c .out < 2 ^ 12
   pub levels : c .levels ≤ 15
-  pub causes : Causes (c .running) (getD (c .waiting) 0 0) (getD (c .waiting) 1 0) (c .queued)
-  pub er : c .er ≤ 5
+  pub causes : Causes causeCount (c .desk)
+  pub er : c .er ≤ ruleCount
   pub ed : flag c ED ≡ not (eqb (c .er) 0)
-  pub active : activeFormed c ≡ true
-
-pub causes-parts : (c : Counter) → causesFormed c ≡ true → Causes (c .running) (getD (c .waiting) 0 0) (getD (c .waiting) 1 0) (c .queued)
-unfolding causesFormed
-causes-parts c h =
-    record { small = leb-true (c .running) 4 (search (first, second)); queue = search (first, second); served = search (first, second) }
-
-pub parts-causes : (c : Counter) → Causes (c .running) (getD (c .waiting) 0 0) (getD (c .waiting) 1 0) (c .queued) → causesFormed c ≡ true
-unfolding causesFormed
-parts-causes c k = both (both (le-leb (c .running) 4 (k .small)) (k .queue)) (k .served)
+  pub active : activeFormed (c .flags) (c .active) ≡ true
 
 pub formed-parts : (c : Counter) → wellFormed c ≡ true → Formed c
-unfolding wellFormed errorFormed
+unfolding wellFormed partsFormed
 formed-parts c h =
+    let d : Desk = c .desk in
+    let counted = and-eq-true-iff _ _ .0 h in
+    let active = and-eq-true-iff _ _ .0 (counted .0) in
+    let error = and-eq-true-iff _ _ .0 (active .0) in
+    let er = and-eq-true-iff _ _ .0 (error .1) in
+    let causes = and-eq-true-iff _ _ .0 (error .0) in
+    let levels = and-eq-true-iff _ _ .0 (causes .0) in
+    let words = and-eq-true-iff _ _ .0 (levels .0) in
+    let served = and-eq-true-iff _ _ .0 (causes .1) in
+    let order = and-eq-true-iff _ _ .0 (served .0) in
+    let waiting = and-eq-true-iff _ _ .0 (order .0) in
+    let most = and-eq-true-iff _ _ .0 (waiting .0) in
     record {
-      flags = ltb-true (c .flags) (2 ^ 20) (search (first, second) depth 7);
-      out = ltb-true (c .out) (2 ^ 12) (search (first, second) depth 7);
-      levels = leb-true (c .levels) 15 (search (first, second) depth 7);
-      causes = causes-parts c (search (first, second) depth 7);
-      er = leb-true (c .er) 5 (search (first, second) depth 7);
-      ed = same (flag c ED) (not (eqb (c .er) 0)) (search (first, second) depth 7);
-      active = search (first, second) depth 7;
+      flags = ltb-true (c .flags) (2 ^ 20) (words .0);
+      out = ltb-true (c .out) (2 ^ 12) (words .1);
+      levels = leb-true (c .levels) 15 (levels .1);
+      causes = record {
+        running-le = leb-true (d .running) causeCount (most .0);
+        queue = record {
+          first-le = leb-true (first d) causeCount (most .1);
+          second-le = leb-true (second d) causeCount (waiting .1);
+          order = order .1;
+          counted = eqb-true (d .queued) (queuedOf (first d) (second d)) (counted .1);
+        };
+        served = served .1;
+      };
+      er = leb-true (c .er) ruleCount (er .0);
+      ed = same (flag c ED) (not (eqb (c .er) 0)) (er .1);
+      active = active .1;
     }
 
 pub parts-formed : (c : Counter) → Formed c → wellFormed c ≡ true
-unfolding wellFormed errorFormed
+unfolding wellFormed partsFormed
 parts-formed c f =
-    both (both (both (both (both (lt-ltb (c .flags) (2 ^ 20) (f .flags)) (lt-ltb (c .out) (2 ^ 12) (f .out))) (le-leb (c .levels) 15 (f .levels))) (parts-causes c (f .causes)))
-    (both (le-leb (c .er) 5 (f .er)) (rw (f .ed) (same-refl (not (eqb (c .er) 0))))))
-    (f .active)
+    let d : Desk = c .desk in
+    let k = f .causes in
+    let q = k .queue in
+    rw (
+      lt-ltb (c .flags) (2 ^ 20) (f .flags),
+      lt-ltb (c .out) (2 ^ 12) (f .out),
+      le-leb (c .levels) 15 (f .levels),
+      le-leb (d .running) causeCount (k .running-le),
+      le-leb (first d) causeCount (q .first-le),
+      le-leb (second d) causeCount (q .second-le),
+      q .order,
+      k .served,
+      le-leb (c .er) ruleCount (f .er),
+      f .ed,
+      same-refl (not (eqb (c .er) 0)),
+      f .active,
+      eq-eqb (d .queued) (queuedOf (first d) (second d)) (q .counted),
+    )

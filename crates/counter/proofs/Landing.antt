@@ -14,7 +14,7 @@ use Rattle.word.proofs.Masks.{bit-setBit, bit-clearBit}
 use Rattle.word.proofs.Branches.{eqZ-refl, eqZ-true}
 use Rattle.counter.specs.declared.state.Counted.{Counted}
 use Rattle.counter.specs.Parts.{lowPreset, highPreset, underflow, overflow, DIR, UF, OF, MD}
-use Rattle.counter.specs.Sample.{counted, up, down, upFlags, downFlags}
+use Rattle.counter.specs.Sample.{up, down, upFlags, downFlags}
 
 -- ---- one of three causes
 
@@ -29,9 +29,14 @@ module _ (p q : ℕ) (apart : eqb p q ≡ false) (some : eqb p 0 ≡ false) (oth
   meets false true = (λ e. (refl, refl), λ e. refl)
   meets false false = (λ e. absurd (eqb-false q 0 other (sym e)), λ e. absurd (false≢true (e .1)))
 
-pick : (b : Bool) (x y : Counted) (n : ℕ) → x .cause ≡ n → y .cause ≡ n → cond b x y .cause ≡ n
-pick true x y n e f = e
-pick false x y n e f = f
+-- the cause of a choice of counts
+cause-cond : (b : Bool) (x y : Counted) → cond b x y .cause ≡ cond b (x .cause) (y .cause)
+cause-cond true x y = refl
+cause-cond false x y = refl
+
+either : (b : Bool) (n : ℕ) → cond b n n ≡ n
+either true n = refl
+either false n = refl
 
 -- equality of numbers for its test
 lands : {A : Type 0} (x y : ℤ) → (A × (eqZ x y ≡ true)) ↔ (A × (x ≡ y))
@@ -45,14 +50,7 @@ then f g = (λ a. g .0 (f .0 a), λ c. f .1 (g .1 c))
 module _ (single : Bool) (acc hip ovf unf : ℤ) where
   up-cause : up single acc hip ovf unf .cause ≡ cond (leZ ovf acc) overflow (cond (eqZ (acc +ℤ pos 1) hip) highPreset 0)
   unfolding up
-  up-cause = go (leZ ovf acc) (eqZ (acc +ℤ pos 1) hip)
-    where
-      go : (a b : Bool)
-          → cond a (cond single (counted (pos 0) overflow) (counted unf overflow)) (cond b (cond single (counted (pos 0) highPreset) (counted (acc +ℤ pos 1) highPreset)) (counted (acc +ℤ pos 1) 0)) .cause
-          ≡ cond a overflow (cond b highPreset 0)
-      go true b = pick single (counted (pos 0) overflow) (counted unf overflow) overflow refl refl
-      go false true = pick single (counted (pos 0) highPreset) (counted (acc +ℤ pos 1) highPreset) highPreset refl refl
-      go false false = refl
+  up-cause = simp (cause-cond, either)
 
   -- overflow exactly by the count past OVF
   pub up-overflow : (up single acc hip ovf unf .cause ≡ overflow) ↔ (leZ ovf acc ≡ true)
@@ -77,12 +75,7 @@ upFlags-of single cause w = go (eqb cause overflow) (eqb cause highPreset && sin
 module _ (acc lop ovf unf : ℤ) where
   down-cause : down acc lop ovf unf .cause ≡ cond (leZ acc unf) underflow (cond (eqZ (acc -ℤ pos 1) lop) lowPreset 0)
   unfolding down
-  down-cause = go (leZ acc unf) (eqZ (acc -ℤ pos 1) lop)
-    where
-      go : (a b : Bool) → cond a (counted ovf underflow) (cond b (counted (acc -ℤ pos 1) lowPreset) (counted (acc -ℤ pos 1) 0)) .cause ≡ cond a underflow (cond b lowPreset 0)
-      go true b = refl
-      go false true = refl
-      go false false = refl
+  down-cause = simp cause-cond
 
   -- underflow exactly by the count past UNF
   pub down-underflow : (down acc lop ovf unf .cause ≡ underflow) ↔ (leZ acc unf ≡ true)

@@ -12,7 +12,14 @@ use Rattle.counter.proofs.Ranges.{over}
 no-flag : (sub : ℕ) (v : ℤ) → 19 ≤ sub → legalFlag sub v ≡ false
 unfolding legalFlag takesBit takesZero
 no-flag sub v h =
-    rw (ne-eqb sub 0 (omega arith), ne-eqb sub 2 (omega arith), over 5 10 sub (omega arith), ne-eqb sub 1 (omega arith), over 11 14 sub (omega arith), over 16 18 sub (omega arith))
+    rw (
+      ne-eqb sub 0 (omega arith),
+      ne-eqb sub 2 (omega arith),
+      over 5 10 sub (omega arith),
+      ne-eqb sub 1 (omega arith),
+      over 11 14 sub (omega arith),
+      over 16 18 sub (omega arith),
+    )
 
 -- a flag write names a flag below 19
 pub flag-below : (sub : ℕ) (v : ℤ) → legalFlag sub v ≡ true → sub < 19

@@ -3,12 +3,14 @@ pub mod Bench
 pub mod ByKind
 pub mod Changes
 pub mod Exact
+pub mod FirstBroken
 pub mod Flags
 pub mod Formed
+pub mod Interrupting
 pub mod Landing
-pub mod Leaves
 pub mod Legal
 pub mod Limits
+pub mod LoadEffects
 pub mod Loads
 pub mod Modes
 pub mod Queue

@@ -1,116 +1,140 @@
--- The running and waiting causes stay well formed: a cause that starts, waits or is lost, and a routine that is done.
-use mathlib.Core.Path.{_≡_, refl, sym, _∙_}
-use mathlib.Core.Bool.{Bool, true, false, cond, false≢true, or-true}
+-- The desk stays well formed, whatever the greatest cause is: a cause that starts, waits or is lost, and a routine that is done.
+use mathlib.Core.Path.{_≡_, refl, _∙_}
+use mathlib.Core.Bool.{Bool, true, false, cond, not, _||_, or-true}
 use mathlib.Core.List.{List, [], _∷_}
 use Prim.Native.Nat.{ℕ, zero, suc, _+_, _-_, _≤_, _<_}
 use native.Mathlib.Omega.{arith}
-use borrow.Author.Tests.{ltb-true, leb-true, ne-eqb}
-use lib.Dec.{eqb, leb, ltb, lit≤}
+use borrow.Author.Tests.{ltb-true, eqb-true, eqb-false}
+use lib.Dec.{eqb, ltb}
 use lib.ListN.{length, getD, set, length-set}
-use Rattle.word.specs.Masks.{setBit}
-use Rattle.counter.specs.declared.state.Counter.{Counter}
-use Rattle.counter.specs.Parts.{UIL, withCauses, withFlags, on}
-use Rattle.counter.specs.Events.{from}
-use Rattle.counter.specs.Interrupts.{started, starting, waiting, resting, advancing, post, finish}
-use Rattle.counter.specs.WellFormed.{activeFormed, queueFormed}
-use Rattle.counter.proofs.Flags.{kept-set, kept-started, other}
-use Rattle.counter.proofs.Formed.{Causes, first, second, both}
-use Rattle.counter.proofs.Changes.{Well, well-flags}
+use Rattle.counter.specs.declared.desk.Desk.{Desk}
+use Rattle.counter.specs.declared.desk.Outcome.the-variants.{Starts, Waits, Lost}
+use Rattle.counter.specs.declared.desk.Next.the-variants.{Cause, Nothing}
+use Rattle.counter.specs.Desk.{first, second, queuedOf, starting, waiting, posted, post, resting, advancing, finished, finish}
 
 -- ---- the queue alone
 
--- one more cause behind those that wait
-queue-more : (l : List ℕ) (cause n : ℕ) → length l ≡ 2 → from 1 4 cause ≡ true → n < 2 → queueFormed (getD l 0 0) (getD l 1 0) n ≡ true
-    → queueFormed (getD (set l n cause) 0 0) (getD (set l n cause) 1 0) (n + 1) ≡ true
-unfolding queueFormed
-queue-more [] cause n e c h q = absurd (omega arith)
-queue-more (a ∷ []) cause n e c h q = absurd (omega arith)
-queue-more (a ∷ b ∷ l) cause zero e c h q = both c (second (eqb a 0) (eqb b 0) q)
-queue-more (a ∷ b ∷ l) cause (suc zero) e c h q = both (first (from 1 4 a) (eqb b 0) q) c
-queue-more (a ∷ b ∷ l) cause (suc (suc n)) e c h q = absurd (omega arith)
+-- a number that is a cause's
+pub record IsCause (most n : ℕ) : Type 0 where
+  pub some : eqb n 0 ≡ false
+  pub small : n ≤ most
 
--- the first taken away
-queue-less : (a b n : ℕ) → eqb n 0 ≡ false → queueFormed a b n ≡ true → (queueFormed b 0 (n - 1) ≡ true) × (from 1 4 a ≡ true)
-unfolding queueFormed
-queue-less a b zero z q = absurd (false≢true (sym z))
-queue-less a b (suc zero) z q = (both (second (from 1 4 a) (eqb b 0) q) refl, first (from 1 4 a) (eqb b 0) q)
-queue-less a b (suc (suc zero)) z q = (both (second (from 1 4 a) (from 1 4 b) q) refl, first (from 1 4 a) (from 1 4 b) q)
-queue-less a b (suc (suc (suc n))) z q =
-    let m : ℕ = suc (suc (suc n)) in
-    let never : false ≡ true = rw (ne-eqb m 0 (omega arith), ne-eqb m 1 (omega arith), ne-eqb m 2 (omega arith)) at q in
-    absurd (false≢true never)
+-- the two waiting places and their number
+pub record Queue (most first second queued : ℕ) : Type 0 where
+  pub first-le : first ≤ most
+  pub second-le : second ≤ most
+  pub order : (eqb second 0 || not (eqb first 0)) ≡ true
+  pub counted : queued ≡ queuedOf first second
 
--- ---- the counter
+module _ {most : ℕ} where
+  -- where none is counted, both places are empty
+  queue-empty : (a b n : ℕ) → n ≡ 0 → Queue most a b n → (eqb a 0 ≡ true) × (eqb b 0 ≡ true)
+  unfolding queuedOf
+  queue-empty a b n z q = go (eqb a 0) (eqb b 0) (q .counted) (q .order)
+    where
+      go : (x y : Bool) → n ≡ cond x 0 (cond y 1 2) → (y || not x) ≡ true → (x ≡ true) × (y ≡ true)
+      go true true e o = (refl, refl)
+      go true false e o = (refl, o)
+      go false true e o = absurd (omega arith)
+      go false false e o = absurd (omega arith)
 
-small : (n : ℕ) → from 1 4 n ≡ true → n ≤ 4
-small n h = leb-true n 4 (second (leb 1 n) (leb n 4) h)
+  -- where some are counted, the first place is taken
+  queue-first : (a b n : ℕ) → eqb n 0 ≡ false → Queue most a b n → eqb a 0 ≡ false
+  unfolding queuedOf
+  queue-first a b n z q = go (eqb a 0) (eqb b 0) (q .counted)
+    where
+      go : (x y : Bool) → n ≡ cond x 0 (cond y 1 2) → x ≡ false
+      go true y e = absurd (eqb-false n 0 z e)
+      go false y e = refl
 
-some : (n : ℕ) → from 1 4 n ≡ true → eqb n 0 ≡ false
-some n h = ne-eqb n 0 (λ e. omega (arith, e, leb-true 1 n (first (leb 1 n) (leb n 4) h)))
+  -- one more cause behind those that wait
+  queue-more : (l : List ℕ) (cause n : ℕ) → length l ≡ 2 → IsCause most cause → n < 2 → Queue most (getD l 0 0) (getD l 1 0) n
+      → Queue most (getD (set l n cause) 0 0) (getD (set l n cause) 1 0) (n + 1)
+  unfolding queuedOf
+  queue-more [] cause n e c h q = absurd (omega arith)
+  queue-more (a ∷ []) cause n e c h q = absurd (omega arith)
+  queue-more (a ∷ b ∷ l) cause zero e c h q =
+      let none : eqb b 0 ≡ true = queue-empty a b 0 refl q .1 in
+      record { first-le = c .small; second-le = q .second-le; order = rw none; counted = rw (c .some, none) }
+  queue-more (a ∷ b ∷ l) cause (suc zero) e c h q =
+      let one : eqb a 0 ≡ false = queue-first a b 1 refl q in
+      record { first-le = q .first-le; second-le = c .small; order = rw (c .some, one); counted = rw (one, c .some) }
+  queue-more (a ∷ b ∷ l) cause (suc (suc n)) e c h q = absurd (omega arith)
 
-module _ (c : Counter) (w : Well c) where
-  causes : Causes (c .running) (getD (c .waiting) 0 0) (getD (c .waiting) 1 0) (c .queued)
-  causes = w .formed .causes
+  -- the first taken away
+  queue-less : (a b n : ℕ) → eqb n 0 ≡ false → Queue most a b n → Queue most b 0 (n - 1)
+  unfolding queuedOf
+  queue-less a b n z q =
+      record { first-le = q .second-le; second-le = omega arith; order = refl; counted = go (eqb b 0) (q .counted ∙ rw (queue-first a b n z q)) }
+    where
+      go : (y : Bool) → n ≡ cond y 1 2 → n - 1 ≡ cond y 0 1
+      go true e = rw e
+      go false e = rw e
 
-  -- other causes, as many as there are places for
-  pub well-causes : (r : ℕ) (l : List ℕ) (n : ℕ) → Causes r (getD l 0 0) (getD l 1 0) n → length l ≡ 2 → Well (withCauses r l n c)
-  unfolding activeFormed
-  well-causes r l n k e =
-      let f = w .formed in
-      let t = w .typed in
+-- ---- the desk
+
+-- causes up to `most`, a first waiting one only with one running
+pub record Causes (most : ℕ) (d : Desk) : Type 0 where
+  pub running-le : d .running ≤ most
+  pub queue : Queue most (first d) (second d) (d .queued)
+  pub served : (eqb (first d) 0 || not (eqb (d .running) 0)) ≡ true
+
+-- a well-formed desk: its causes, and two places for those that wait
+pub record WellDesk (most : ℕ) (d : Desk) : Type 0 where
+  pub causes : Causes most d
+  pub places : length (d .waiting) ≡ 2
+
+module _ {most : ℕ} (d : Desk) (w : WellDesk most d) where
+  k : Causes most d
+  k = w .causes
+
+  well-starting : (cause : ℕ) → IsCause most cause → WellDesk most (starting cause d)
+  well-starting cause h =
+      record { causes = record { running-le = h .small; queue = k .queue; served = rw (h .some) (or-true (eqb (first d) 0)) }; places = w .places }
+
+  well-waiting : (cause : ℕ) → IsCause most cause → eqb (d .running) 0 ≡ false → ltb (d .queued) 2 ≡ true → WellDesk most (waiting cause d)
+  well-waiting cause h r q =
       record {
-        formed = record { flags = f .flags; out = f .out; levels = f .levels; causes = k; er = f .er; ed = f .ed; active = f .active };
-        typed = record { staged = t .staged; active = t .active; acc = t .acc; waiting = e };
+        causes = record {
+          running-le = k .running-le;
+          queue = queue-more (d .waiting) cause (d .queued) (w .places) h (ltb-true (d .queued) 2 q) (k .queue);
+          served = rw r (or-true (eqb (first (waiting cause d)) 0));
+        };
+        places = length-set (d .waiting) (d .queued) cause ∙ w .places;
       }
 
-  well-resting : eqb (c .queued) 0 ≡ true → Well (resting c)
+  well-resting : eqb (d .queued) 0 ≡ true → WellDesk most (resting d)
   well-resting z =
-      well-causes 0 (c .waiting) (c .queued) (record { small = lit≤ tt; queue = causes .queue; served = rw z }) (w .typed .waiting)
+      let none : eqb (first d) 0 ≡ true = queue-empty (first d) (second d) (d .queued) (eqb-true (d .queued) 0 z) (k .queue) .0 in
+      record { causes = record { running-le = omega arith; queue = k .queue; served = rw none }; places = w .places }
 
-  well-waiting : (cause : ℕ) → from 1 4 cause ≡ true → eqb (c .running) 0 ≡ false → ltb (c .queued) 2 ≡ true → Well (waiting cause c)
-  well-waiting cause h r q =
-      well-causes (c .running) (set (c .waiting) (c .queued) cause) (c .queued + 1)
-      (record {
-        small = causes .small;
-        queue = queue-more (c .waiting) cause (c .queued) (w .typed .waiting) h (ltb-true (c .queued) 2 q) (causes .queue);
-        served = rw r (or-true (eqb (c .queued + 1) 0));
-      })
-      (length-set (c .waiting) (c .queued) cause ∙ w .typed .waiting)
+  well-advancing : eqb (d .queued) 0 ≡ false → WellDesk most (advancing d)
+  well-advancing z =
+      record {
+        causes = record {
+          running-le = k .queue .first-le;
+          queue = queue-less (first d) (second d) (d .queued) z (k .queue);
+          served = rw (queue-first (first d) (second d) (d .queued) z (k .queue)) (or-true (eqb (second d) 0));
+        };
+        places = refl;
+      }
 
--- with the flags of the cause that starts
-well-started : (c : Counter) (cause : ℕ) → Well c → Well (withFlags (started cause (c .flags)) c)
-well-started c cause w = well-flags c w (started cause (c .flags)) (kept-started cause (c .flags))
+  pub well-post : (cause : ℕ) → IsCause most cause → WellDesk most (post cause d .desk)
+  unfolding post
+  well-post cause h = go (eqb (d .running) 0) (ltb (d .queued) 2) refl refl
+    where
+      go : (a b : Bool) → eqb (d .running) 0 ≡ a → ltb (d .queued) 2 ≡ b
+          → WellDesk most (cond a (posted (starting cause d) Starts) (cond b (posted (waiting cause d) Waits) (posted d Lost)) .desk)
+      go true b p q = well-starting cause h
+      go false true p q = well-waiting cause h p q
+      go false false p q = w
 
-well-starting : (c : Counter) (cause : ℕ) → Well c → from 1 4 cause ≡ true → Well (starting cause c)
-well-starting c cause w h =
-    well-causes (withFlags (started cause (c .flags)) c) (well-started c cause w) cause (c .waiting) (c .queued)
-    (record { small = small cause h; queue = w .formed .causes .queue; served = rw (some cause h) (or-true (eqb (c .queued) 0)) })
-    (w .typed .waiting)
-
-well-advancing : (c : Counter) → Well c → eqb (c .queued) 0 ≡ false → Well (advancing c)
-well-advancing c w z =
-    let a : ℕ = getD (c .waiting) 0 0 in
-    let less = queue-less a (getD (c .waiting) 1 0) (c .queued) z (w .formed .causes .queue) in
-    well-causes (withFlags (started a (c .flags)) c) (well-started c a w) a (getD (c .waiting) 1 0 ∷ 0 ∷ []) (c .queued - 1)
-    (record { small = small a (less .1); queue = less .0; served = rw (some a (less .1)) (or-true (eqb (c .queued - 1) 0)) })
-    refl
-
--- ---- posting and finishing
-
--- whichever way a test goes
-pub well-cond : (b : Bool) (c d : Counter) → (b ≡ true → Well c) → (b ≡ false → Well d) → Well (cond b c d)
-well-cond true c d p q = p refl
-well-cond false c d p q = q refl
-
-pub well-post : (c : Counter) (cause : ℕ) → Well c → from 1 4 cause ≡ true → Well (post cause c)
-unfolding post
-well-post c cause w h =
-    well-cond (eqb (c .running) 0) (starting cause c) (cond (ltb (c .queued) 2) (waiting cause c) (on UIL c)) (λ r. well-starting c cause w h)
-    (λ r. well-cond (ltb (c .queued) 2) (waiting cause c) (on UIL c) (λ q. well-waiting c w cause h r q)
-    (λ q. well-flags c w (setBit (c .flags) UIL) (kept-set (c .flags) UIL (other UIL tt refl refl))))
-
-pub well-finish : (c : Counter) → Well c → Well (finish c)
-unfolding finish
-well-finish c w =
-    well-cond (eqb (c .running) 0) c (cond (eqb (c .queued) 0) (resting c) (advancing c)) (λ r. w)
-    (λ r. well-cond (eqb (c .queued) 0) (resting c) (advancing c) (well-resting c w) (well-advancing c w))
+  pub well-finish : WellDesk most (finish d .desk)
+  unfolding finish
+  well-finish = go (eqb (d .running) 0) (eqb (d .queued) 0) refl
+    where
+      go : (a b : Bool) → eqb (d .queued) 0 ≡ b
+          → WellDesk most (cond a (finished d Nothing) (cond b (finished (resting d) Nothing) (finished (advancing d) (Cause (first d)))) .desk)
+      go true b q = w
+      go false true q = well-resting q
+      go false false q = well-advancing q

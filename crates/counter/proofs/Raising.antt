@@ -4,8 +4,8 @@ use mathlib.Core.Bool.{_&&_, and-false}
 use Rattle.word.specs.Masks.{bit}
 use Rattle.counter.specs.declared.state.Counter.{Counter}
 use Rattle.counter.specs.Parts.{FE, UIE}
-use Rattle.counter.specs.Interrupts.{causeWord, masked, enabled, raise}
+use Rattle.counter.specs.Interrupts.{causeWord, unmasked, enabled, raise}
 
 pub raise-none : (c : Counter) → raise 0 c ≡ c
-unfolding raise enabled masked causeWord
+unfolding raise enabled unmasked causeWord
 raise-none c = rw (and-false (bit (c .flags) FE && bit (c .flags) UIE))

@@ -1,11 +1,11 @@
 -- Outputs, a raised cause and an input sample keep a state well formed.
 use mathlib.Core.Path.{_≡_, refl}
-use mathlib.Core.Bool.{Bool, true, false, cond, _&&_, false≢true}
+use mathlib.Core.Bool.{Bool, true, false, _&&_, and-eq-true-iff, false≢true}
 use Prim.Native.Nat.{ℕ, _<_, _≤_, _%_, _^_}
 use native.Mathlib.Nat.{mod-lt, lt-of-le-of-lt}
 use borrow.Author.Tests.{eqb-true}
 use lib.Bits.{bitAnd, and-le-l, and-le-r, or-lt}
-use lib.Dec.{eqb, lit<}
+use lib.Dec.{eqb, lit<, lit≤}
 use lib.IntN.{ℤ, pos, _+ℤ_, _-ℤ_}
 use lib.Signed.{leZ}
 use mir.Syntax.{w32}
@@ -13,20 +13,21 @@ use mir.Val.{SFits}
 use Rattle.word.specs.Masks.{bit, merge}
 use Rattle.word.specs.TwosComplement.{eqZ}
 use Rattle.word.proofs.Masks.{merge-lt}
+use Rattle.word.proofs.Branches.{cond-cases}
 use Rattle.counter.specs.declared.state.Counter.{Counter}
 use Rattle.counter.specs.declared.state.Counted.{Counted}
 use Rattle.counter.specs.declared.state.Sampled.{Sampled}
 use Rattle.counter.specs.declared.state.Count.{Count}
 use Rattle.counter.specs.declared.state.Count.the-variants.{None, Up, Down}
-use Rattle.counter.specs.Parts.{FE, UIE, lowPreset, highPreset, overflow, LOADED, flag, withAcc, withFlags, withLevels, upOnly, mode}
-use Rattle.counter.specs.Interrupts.{outputMask, presetWord, causeWord, masked, enabled, post, withOutputs, raise}
-use Rattle.counter.specs.Sample.{counted, up, down, upOf, downOf, sampledAs, unmoved, countedBy, resets, counting, direction, sampled, sample}
-use Rattle.counter.specs.Events.{from, programWord}
+use Rattle.counter.specs.Parts.{FE, UIE, lowPreset, highPreset, overflow, causeCount, withAcc, withFlags, withLevels, upOnly, mode}
+use Rattle.counter.specs.Interrupts.{outputMask, presetWord, causeWord, unmasked, enabled, withOutputs, raise}
+use Rattle.counter.specs.Sample.{counted, up, down, upOf, downOf, sampledAs, unmoved, countedBy, resets, count, sampled, sample}
+use Rattle.counter.specs.Events.{programWord}
 use Rattle.counter.proofs.Limits.{up-fits, down-fits}
 use Rattle.counter.proofs.Flags.{Kept, kept-refl, kept-upFlags, kept-downFlags}
-use Rattle.counter.proofs.Formed.{second}
 use Rattle.counter.proofs.Changes.{Well, well-out, well-acc, well-flags, well-levels}
-use Rattle.counter.proofs.Queue.{well-cond, well-post}
+use Rattle.counter.proofs.Queue.{IsCause}
+use Rattle.counter.proofs.Interrupting.{well-interrupt}
 
 -- ---- outputs stay below 2 ^ 12
 
@@ -38,11 +39,8 @@ presetWord-lt omb word out h =
 pub causeWord-lt : (cause omb hpo lpo out : ℕ) → out < 2 ^ 12 → causeWord cause omb hpo lpo out < 2 ^ 12
 unfolding causeWord
 causeWord-lt cause omb hpo lpo out h =
-    below (eqb cause highPreset) (presetWord-lt omb hpo out h) (below (eqb cause lowPreset) (presetWord-lt omb lpo out h) h)
-  where
-    below : (b : Bool) {m n : ℕ} → m < 2 ^ 12 → n < 2 ^ 12 → cond b m n < 2 ^ 12
-    below true p q = p
-    below false p q = q
+    cond-cases (λ (n : ℕ). n < 2 ^ 12) (eqb cause highPreset) _ _ (λ e. presetWord-lt omb hpo out h)
+    (λ e. cond-cases (λ (n : ℕ). n < 2 ^ 12) (eqb cause lowPreset) _ _ (λ e. presetWord-lt omb lpo out h) (λ e. h))
 
 pub programWord-lt : (omb word out : ℕ) → out < 2 ^ 12 → programWord omb word out < 2 ^ 12
 unfolding programWord
@@ -51,58 +49,61 @@ programWord-lt omb word out h = merge-lt 12 16 (outputMask omb) out (word % 4096
 -- ---- a raised cause
 
 -- only 1 to 4 become interrupts
-enabled-cause : (flags cause : ℕ) → enabled flags cause ≡ true → from 1 4 cause ≡ true
-unfolding enabled masked
+enabled-cause : (flags cause : ℕ) → enabled flags cause ≡ true → IsCause causeCount cause
+unfolding enabled unmasked
 enabled-cause flags cause h = go (eqb cause 1) (eqb cause 2) (eqb cause 3) (eqb cause 4) refl refl refl refl
   where
-    m : masked flags cause ≡ true
-    m = second (bit flags FE && bit flags UIE) (masked flags cause) h
+    m : unmasked flags cause ≡ true
+    m = and-eq-true-iff (bit flags FE && bit flags UIE) (unmasked flags cause) .0 h .1
 
-    go : (a b c d : Bool) → eqb cause 1 ≡ a → eqb cause 2 ≡ b → eqb cause 3 ≡ c → eqb cause 4 ≡ d → from 1 4 cause ≡ true
-    go true b c d p q r s = rw (eqb-true cause 1 p)
-    go false true c d p q r s = rw (eqb-true cause 2 q)
-    go false false true d p q r s = rw (eqb-true cause 3 r)
-    go false false false true p q r s = rw (eqb-true cause 4 s)
+    is : (n : ℕ) → eqb cause n ≡ true → eqb n 0 ≡ false → n ≤ causeCount → IsCause causeCount cause
+    is n e z l = record { some = rw (eqb-true cause n e) z; small = rw (eqb-true cause n e) l }
+
+    go : (a b c d : Bool) → eqb cause 1 ≡ a → eqb cause 2 ≡ b → eqb cause 3 ≡ c → eqb cause 4 ≡ d → IsCause causeCount cause
+    go true b c d p q r s = is 1 p refl (lit≤ tt)
+    go false true c d p q r s = is 2 q refl (lit≤ tt)
+    go false false true d p q r s = is 3 r refl (lit≤ tt)
+    go false false false true p q r s = is 4 s refl (lit≤ tt)
     go false false false false p q r s = absurd (false≢true (rw (p, q, r, s) at m))
 
 pub well-raise : (c : Counter) (cause : ℕ) → Well c → Well (raise cause c)
 unfolding raise
 well-raise c cause w =
-    let put : Well (withOutputs cause c) = well-out c w (causeWord cause (c .active .omb) (c .active .hpo) (c .active .lpo) (c .out)) (causeWord-lt cause (c .active .omb) (c .active .hpo) (c .active .lpo) (c .out) (w .formed .out)) in
-    well-cond (enabled (c .flags) cause) (post cause (withOutputs cause c)) (withOutputs cause c)
-    (λ e. well-post (withOutputs cause c) cause put (enabled-cause (c .flags) cause e))
+    let a = c .active in
+    let put : Well (withOutputs cause c) =
+    well-out c w (causeWord cause (a .omb) (a .hpo) (a .lpo) (c .out)) (causeWord-lt cause (a .omb) (a .hpo) (a .lpo) (c .out) (w .formed .out)) in
+    cond-cases Well (enabled (c .flags) cause) _ _
+    (λ e. well-interrupt (withOutputs cause c) put cause (enabled-cause (c .flags) cause e))
     (λ e. put)
 
 -- ---- a count
 
-cond-fits : (b : Bool) (x y : Counted) → (b ≡ true → SFits w32 (x .acc)) → (b ≡ false → SFits w32 (y .acc)) → SFits w32 (cond b x y .acc)
-cond-fits true x y p q = p refl
-cond-fits false x y p q = q refl
+-- ACC after a count fits
+Fitting : Counted → Type 0
+Fitting r = SFits w32 (r .acc)
 
 pub up-acc : (single : Bool) (acc hip ovf unf : ℤ) → SFits w32 acc → SFits w32 ovf → SFits w32 unf → SFits w32 (up single acc hip ovf unf .acc)
-unfolding up
+unfolding up Fitting
 up-acc single acc hip ovf unf a o u =
-    cond-fits (leZ ovf acc) _ _
-    (λ e. cond-fits single (counted (pos 0) overflow) (counted unf overflow) (λ s. zero) (λ s. u))
-    (λ e. cond-fits (eqZ (acc +ℤ pos 1) hip) _ _ (λ l. cond-fits single (counted (pos 0) highPreset) (counted (acc +ℤ pos 1) highPreset) (λ s. zero) (λ s. up-fits a o e)) (λ l. up-fits a o e))
+    cond-cases Fitting (leZ ovf acc) _ _
+    (λ e. cond-cases Fitting single (counted (pos 0) overflow) (counted unf overflow) (λ s. zero) (λ s. u))
+    (λ e. cond-cases Fitting (eqZ (acc +ℤ pos 1) hip) _ _
+    (λ l. cond-cases Fitting single (counted (pos 0) highPreset) (counted (acc +ℤ pos 1) highPreset) (λ s. zero) (λ s. up-fits a o e))
+    (λ l. up-fits a o e))
   where
     zero : SFits w32 (pos 0)
     zero = record { sfits = lit< tt }
 
 pub down-acc : (acc lop ovf unf : ℤ) → SFits w32 acc → SFits w32 ovf → SFits w32 unf → SFits w32 (down acc lop ovf unf .acc)
-unfolding down
+unfolding down Fitting
 down-acc acc lop ovf unf a o u =
-    cond-fits (leZ acc unf) _ _ (λ e. o)
-    (λ e. cond-fits (eqZ (acc -ℤ pos 1) lop) (counted (acc -ℤ pos 1) lowPreset) (counted (acc -ℤ pos 1) 0) (λ l. down-fits a u e) (λ l. down-fits a u e))
+    cond-cases Fitting (leZ acc unf) _ _ (λ e. o)
+    (λ e. cond-cases Fitting (eqZ (acc -ℤ pos 1) lop) _ _ (λ l. down-fits a u e) (λ l. down-fits a u e))
 
 -- what a sample makes of ACC fits, and of the flags keeps ED and LOADED
 record Moved (c : Counter) (r : Sampled) : Type 0 where
   acc : SFits w32 (r .acc)
   flags : Kept (c .flags) (r .flags)
-
-moved-cond : (b : Bool) (c : Counter) (x y : Sampled) → Moved c x → Moved c y → Moved c (cond b x y)
-moved-cond true c x y p q = p
-moved-cond false c x y p q = q
 
 module _ (c : Counter) (w : Well c) where
   still : Moved c (unmoved c)
@@ -127,11 +128,8 @@ module _ (c : Counter) (w : Well c) where
   moved-sampled : (new : ℕ) → Moved c (sampled new c)
   unfolding sampled
   moved-sampled new =
-      let m : ℕ = mode c in
-      let way : Count = direction m (c .levels) new in
-      let counts : Moved c (cond (counting m (c .flags) new) (countedBy way c) (unmoved c)) = moved-cond (counting m (c .flags) new) c (countedBy way c) (unmoved c) (moved-countedBy way) still in
       let reset : Moved c (sampledAs (pos 0) (c .flags) 0) = record { acc = record { sfits = lit< tt }; flags = kept-refl (c .flags) } in
-      moved-cond (flag c LOADED) c _ (unmoved c) (moved-cond (resets m (c .levels) new) c _ _ reset counts) still
+      cond-cases (Moved c) (resets new c) _ _ (λ e. reset) (λ e. moved-countedBy (count new c))
 
   -- ---- the sample
 
@@ -141,5 +139,6 @@ module _ (c : Counter) (w : Well c) where
       let r : Sampled = sampled new c in
       let m : Moved c r = moved-sampled new in
       let stored : Well (withLevels new c) = well-levels c w new h in
-      let counted : Well (withAcc (r .acc) (withLevels new c)) = well-acc (withLevels new c) stored (r .acc) (m .acc) in
-      well-raise (withFlags (r .flags) (withAcc (r .acc) (withLevels new c))) (r .cause) (well-flags (withAcc (r .acc) (withLevels new c)) counted (r .flags) (m .flags))
+      let d : Counter = withAcc (r .acc) (withLevels new c) in
+      let counted : Well d = well-acc (withLevels new c) stored (r .acc) (m .acc) in
+      well-raise (withFlags (r .flags) d) (r .cause) (well-flags d counted (r .flags) (m .flags))

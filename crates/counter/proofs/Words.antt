@@ -15,9 +15,9 @@ use Rattle.counter.specs.declared.state.Counter.{Counter}
 use Rattle.counter.specs.declared.state.Sampled.{Sampled}
 use Rattle.counter.specs.declared.state.Count.{Count}
 use Rattle.counter.specs.declared.state.Count.the-variants.{None, Up, Down}
-use Rattle.counter.specs.Parts.{UIL, lowPreset, highPreset, on, withStaged, withAcc, withFlags, withLevels, mode}
-use Rattle.counter.specs.Interrupts.{outputMask, presetWord, causeWord, enabled, starting, waiting, post, withOutputs, raise}
-use Rattle.counter.specs.Sample.{countedBy, direction, sampled, after, sample}
+use Rattle.counter.specs.Parts.{lowPreset, highPreset, withStaged, withAcc, withFlags, withLevels}
+use Rattle.counter.specs.Interrupts.{outputMask, presetWord, causeWord, enabled, interrupt, withOutputs, raise}
+use Rattle.counter.specs.Sample.{countedBy, resets, mayCount, count, sampled, after, sample}
 use Rattle.counter.specs.Events.{programWord, outputWrite}
 use Rattle.counter.proofs.Samples.{causeWord-lt, programWord-lt}
 
@@ -80,23 +80,13 @@ module _ (out n : ℕ) (h : out < 2 ^ 12) (l : 12 ≤ n) where
 -- ---- staged settings
 
 module _ (s : Settings) where
-  -- whichever way two tests go
-  over : (a b : Bool) (x y z : Counter) → cond a (withStaged s x) (cond b (withStaged s y) (withStaged s z)) ≡ withStaged s (cond a x (cond b y z))
-  over true b x y z = refl
-  over false true x y z = refl
-  over false false x y z = refl
-
-  post-staged : (cause : ℕ) (c : Counter) → post cause (withStaged s c) ≡ withStaged s (post cause c)
-  unfolding post
-  post-staged cause c = over (eqb (c .running) 0) (ltb (c .queued) 2) (starting cause c) (waiting cause c) (on UIL c)
+  cond-staged : (b : Bool) (x y : Counter) → cond b (withStaged s x) (withStaged s y) ≡ withStaged s (cond b x y)
+  cond-staged true x y = refl
+  cond-staged false x y = refl
 
   raise-staged : (cause : ℕ) (c : Counter) → raise cause (withStaged s c) ≡ withStaged s (raise cause c)
-  unfolding raise
-  raise-staged cause c = go (enabled (c .flags) cause)
-    where
-      go : (b : Bool) → cond b (post cause (withStaged s (withOutputs cause c))) (withStaged s (withOutputs cause c)) ≡ withStaged s (cond b (post cause (withOutputs cause c)) (withOutputs cause c))
-      go true = post-staged cause (withOutputs cause c)
-      go false = refl
+  unfolding raise interrupt
+  raise-staged cause c = cond-staged (enabled (c .flags) cause) (interrupt cause (withOutputs cause c)) (withOutputs cause c)
 
   countedBy-staged : (way : Count) (c : Counter) → countedBy way (withStaged s c) ≡ countedBy way c
   unfolding countedBy
@@ -105,8 +95,8 @@ module _ (s : Settings) where
   countedBy-staged Down c = refl
 
   sampled-staged : (new : ℕ) (c : Counter) → sampled new (withStaged s c) ≡ sampled new c
-  unfolding sampled
-  sampled-staged new c = rw (countedBy-staged (direction (mode c) (c .levels) new) c)
+  unfolding sampled count mayCount resets
+  sampled-staged new c = rw (countedBy-staged (count new c) c)
 
   -- staged settings, OMB among them, have no say in an input sample or in the program's word
   pub sample-staged : (new : ℕ) (c : Counter) → sample new (withStaged s c) ≡ withStaged s (sample new c)

@@ -4,13 +4,14 @@ use mathlib.Core.List.{List, [], _∷_}
 use Prim.Native.Nat.{ℕ}
 use lib.Dec.{eqb}
 use lib.IntN.{ℤ, pos, negsuc}
-use lib.ListN.{getD}
 use Rattle.word.specs.TwosComplement.{eqZ}
 use Rattle.counter.specs.declared.state.Counter.{Counter}
 use Rattle.counter.specs.declared.state.Count.{Count}
 use Rattle.counter.specs.declared.state.Count.the-variants.{Up, Down}
-use Rattle.counter.specs.Parts.{UIE, UIL, FE, LPI, HPI, OF, MD, LOADED, lowPreset, highPreset, underflow, overflow, withActive, withAcc, withOut, withCauses, flag, on, fresh}
-use Rattle.counter.specs.Interrupts.{finish, raise}
+use Rattle.counter.specs.Desk.{deskOf, first, second}
+use Rattle.counter.specs.Parts.{UIE, UIL, FE, LPI, HPI, OF, MD, LOADED, lowPreset, highPreset, underflow, overflow, withActive, withAcc}
+use Rattle.counter.specs.Parts.{withOut, withDesk, flag, on, fresh}
+use Rattle.counter.specs.Interrupts.{routineDone, raise}
 use Rattle.counter.specs.Sample.{countedBy, after}
 
 -- ---- what the rows start from
@@ -35,22 +36,22 @@ withMask out =
 
 -- FE, UIE, all masks and HPI at 1; running 2, waiting 1 and 4
 abbrev pub crowded : Counter
-crowded = withCauses 2 (1 ∷ 4 ∷ []) 2 (on FE (on UIE (on HPI fresh)))
+crowded = withDesk (deskOf 2 (1 ∷ 4 ∷ []) 2) (on FE (on UIE (on HPI fresh)))
 
 -- ---- tests
 
 -- the counter after one count
-abbrev pub count : Count → Counter → Counter
-count way c = after (countedBy way c) c
+abbrev pub afterCount : Count → Counter → Counter
+afterCount way c = after (countedBy way c) c
 
 -- one count from c leaves ACC and raises the cause
 abbrev pub gives : Counter → Count → ℤ → ℕ → Bool
-gives c way acc cause = eqZ (count way c .acc) acc && eqb (countedBy way c .cause) cause
+gives c way acc cause = eqZ (afterCount way c .acc) acc && eqb (countedBy way c .cause) cause
 
 -- running, and the waiting causes beside their number
 abbrev pub causesAre : Counter → ℕ → ℕ → ℕ → ℕ → Bool
-causesAre c running first second queued =
-    eqb (c .running) running && eqb (getD (c .waiting) 0 0) first && eqb (getD (c .waiting) 1 0) second && eqb (c .queued) queued
+causesAre c running one two queued =
+    eqb (c .desk .running) running && eqb (first (c .desk)) one && eqb (second (c .desk)) two && eqb (c .desk .queued) queued
 
 unfoldable pub bench : List Bool
 bench =
@@ -69,17 +70,17 @@ bench =
     -- g. P, 9 down: 8
     ∷ gives (atP (pos 9)) Down (pos 8) 0
     -- h. mode 0, HIP 3, OVF 10: 2 up gives 0, MD
-    ∷ (gives (atMode0 (pos 2)) Up (pos 0) highPreset && flag (count Up (atMode0 (pos 2))) MD)
+    ∷ (gives (atMode0 (pos 2)) Up (pos 0) highPreset && flag (afterCount Up (atMode0 (pos 2))) MD)
     -- i. same, 3 up: 4
     ∷ gives (atMode0 (pos 3)) Up (pos 4) 0
     -- j. same, 10 up: 0, OF, no MD
-    ∷ (gives (atMode0 (pos 10)) Up (pos 0) overflow && flag (count Up (atMode0 (pos 10))) OF && not (flag (count Up (atMode0 (pos 10))) MD))
+    ∷ (gives (atMode0 (pos 10)) Up (pos 0) overflow && flag (afterCount Up (atMode0 (pos 10))) OF && not (flag (afterCount Up (atMode0 (pos 10))) MD))
     -- k. HPO 15, OMB 13, outputs 2: 15; outputs 0: 13
     ∷ (eqb (raise highPreset (withMask 2) .out) 15 && eqb (raise highPreset (withMask 0) .out) 13)
     -- l. running 2, waiting 1 and 4, cause 3: UIL, queue kept; done: 1 runs, LPI 1, HPI 0
     ∷ (flag (raise underflow crowded) UIL
     && causesAre (raise underflow crowded) 2 1 4 2
-    && causesAre (finish (raise underflow crowded)) 1 4 0 1
-    && flag (finish (raise underflow crowded)) LPI
-    && not (flag (finish (raise underflow crowded)) HPI))
+    && causesAre (routineDone (raise underflow crowded)) 1 4 0 1
+    && flag (routineDone (raise underflow crowded)) LPI
+    && not (flag (routineDone (raise underflow crowded)) HPI))
     ∷ []

@@ -1,6 +1,5 @@
 -- Document 01, "Events, 12 bytes, little-endian", on a decoded event: which events are legal, and the step of each kind.
 use mathlib.Core.Bool.{Bool, true, false, cond, not, _&&_, _||_}
-use mathlib.Core.List.{[], _∷_}
 use Prim.Native.Nat.{ℕ, _%_}
 use lib.Dec.{eqb, leb}
 use lib.IntN.{ℤ, pos, negsuc}
@@ -10,15 +9,17 @@ use Rattle.word.specs.Masks.{merge}
 use Rattle.word.specs.TwosComplement.{signed, unsigned, eqZ}
 use Rattle.counter.specs.declared.state.Settings.{Settings}
 use Rattle.counter.specs.declared.state.Counter.{Counter}
-use Rattle.counter.specs.Parts.{AS, SP, FE, withStaged, withAcc, withOut, withFlags, withCauses, flag, on, off}
+use Rattle.counter.specs.Desk.{empty}
+use Rattle.counter.specs.Parts.{AS, SP, FE, withPfn, withMode, withHip, withLop, withOvf, withUnf, withOmb, withHpo, withLpo, withStaged}
+use Rattle.counter.specs.Parts.{withAcc, withOut, withFlags, withDesk, flag, on, off}
 use Rattle.counter.specs.Loading.{firstBroken, accepted, rejected, load, presetLoad}
-use Rattle.counter.specs.Interrupts.{outputMask, quiet, finish}
+use Rattle.counter.specs.Interrupts.{outputMask, quiet, routineDone}
 use Rattle.counter.specs.Sample.{sample}
 
 -- ---- legal events: kind, sub and value
 
-abbrev pub from : ℕ → ℕ → ℕ → Bool
-from a b n = leb a n && leb n b
+abbrev pub inRange : ℕ → ℕ → ℕ → Bool
+inRange a b n = leb a n && leb n b
 
 abbrev pub between : ℤ → ℤ → ℤ → Bool
 between a b v = leZ a v && leZ v b
@@ -44,18 +45,18 @@ isShort = between (negsuc 32767) (pos 32767)
 
 -- staged write: sub 1 HIP, 2 LOP, 3 OVF, 4 UNF (any), 5 HPO, 6 LPO
 unfoldable pub legalStaged : ℕ → ℤ → Bool
-legalStaged sub v = cond (from 1 4 sub) true (cond (from 5 6 sub) (isWord v) false)
+legalStaged sub v = cond (inRange 1 4 sub) true (cond (inRange 5 6 sub) (isWord v) false)
 
 -- programming device: sub 1 PFN, 2 MOD, 3 OMB, 4 AS
 unfoldable pub legalDevice : ℕ → ℤ → Bool
-legalDevice sub v = cond (from 1 2 sub) (isShort v) (cond (eqb sub 3) (isWord v) (cond (eqb sub 4) (isBit v) false))
+legalDevice sub v = cond (inRange 1 2 sub) (isShort v) (cond (eqb sub 3) (isWord v) (cond (eqb sub 4) (isBit v) false))
 
 -- flag write, sub the flag: 0, 2, 5-10 take 0 or 1; 1, 11-14, 16-18 take 0 only
 unfoldable pub takesBit : ℕ → Bool
-takesBit sub = eqb sub 0 || eqb sub 2 || from 5 10 sub
+takesBit sub = eqb sub 0 || eqb sub 2 || inRange 5 10 sub
 
 unfoldable pub takesZero : ℕ → Bool
-takesZero sub = eqb sub 1 || from 11 14 sub || from 16 18 sub
+takesZero sub = eqb sub 1 || inRange 11 14 sub || inRange 16 18 sub
 
 unfoldable pub legalFlag : ℕ → ℤ → Bool
 legalFlag sub v = takesBit sub && isBit v || takesZero sub && isZero v
@@ -69,7 +70,7 @@ legal kind sub v =
     (cond (eqb kind 3) (legalDevice sub v)
     (cond (eqb kind 4) (legalFlag sub v)
     (cond (eqb kind 5) (eqb sub 0)
-    (cond (from 6 8 kind) (eqb sub 0 && isZero v) (cond (eqb kind 9) (eqb sub 0 && isWord v) false)))))))
+    (cond (inRange 6 8 kind) (eqb sub 0 && isZero v) (cond (eqb kind 9) (eqb sub 0 && isWord v) false)))))))
 
 -- a legal input sample
 abbrev pub isSample : ℕ → ℕ → ℤ → Bool
@@ -91,12 +92,12 @@ shortOf v = signed w16 (wordOf v)
 -- 2: a staged write
 unfoldable pub staged : ℕ → ℤ → Settings → Settings
 staged sub v s =
-    cond (eqb sub 1) (record { pfn = s .pfn; mode = s .mode; hip = v; lop = s .lop; ovf = s .ovf; unf = s .unf; omb = s .omb; hpo = s .hpo; lpo = s .lpo })
-    (cond (eqb sub 2) (record { pfn = s .pfn; mode = s .mode; hip = s .hip; lop = v; ovf = s .ovf; unf = s .unf; omb = s .omb; hpo = s .hpo; lpo = s .lpo })
-    (cond (eqb sub 3) (record { pfn = s .pfn; mode = s .mode; hip = s .hip; lop = s .lop; ovf = v; unf = s .unf; omb = s .omb; hpo = s .hpo; lpo = s .lpo })
-    (cond (eqb sub 4) (record { pfn = s .pfn; mode = s .mode; hip = s .hip; lop = s .lop; ovf = s .ovf; unf = v; omb = s .omb; hpo = s .hpo; lpo = s .lpo })
-    (cond (eqb sub 5) (record { pfn = s .pfn; mode = s .mode; hip = s .hip; lop = s .lop; ovf = s .ovf; unf = s .unf; omb = s .omb; hpo = wordOf v; lpo = s .lpo })
-    (cond (eqb sub 6) (record { pfn = s .pfn; mode = s .mode; hip = s .hip; lop = s .lop; ovf = s .ovf; unf = s .unf; omb = s .omb; hpo = s .hpo; lpo = wordOf v }) s)))))
+    cond (eqb sub 1) (withHip v s)
+    (cond (eqb sub 2) (withLop v s)
+    (cond (eqb sub 3) (withOvf v s)
+    (cond (eqb sub 4) (withUnf v s)
+    (cond (eqb sub 5) (withHpo (wordOf v) s)
+    (cond (eqb sub 6) (withLpo (wordOf v) s) s)))))
 
 unfoldable pub stagedWrite : ℕ → ℤ → Counter → Counter
 stagedWrite sub v c = withStaged (staged sub v (c .staged)) c
@@ -104,9 +105,8 @@ stagedWrite sub v c = withStaged (staged sub v (c .staged)) c
 -- 3: the programming device's settings, sub 1 to 3
 unfoldable pub device : ℕ → ℤ → Settings → Settings
 device sub v s =
-    cond (eqb sub 1) (record { pfn = shortOf v; mode = s .mode; hip = s .hip; lop = s .lop; ovf = s .ovf; unf = s .unf; omb = s .omb; hpo = s .hpo; lpo = s .lpo })
-    (cond (eqb sub 2) (record { pfn = s .pfn; mode = shortOf v; hip = s .hip; lop = s .lop; ovf = s .ovf; unf = s .unf; omb = s .omb; hpo = s .hpo; lpo = s .lpo })
-    (cond (eqb sub 3) (record { pfn = s .pfn; mode = s .mode; hip = s .hip; lop = s .lop; ovf = s .ovf; unf = s .unf; omb = wordOf v; hpo = s .hpo; lpo = s .lpo }) s))
+    cond (eqb sub 1) (withPfn (shortOf v) s)
+    (cond (eqb sub 2) (withMode (shortOf v) s) (cond (eqb sub 3) (withOmb (wordOf v) s) s))
 
 -- flag n at the value's level
 abbrev pub setTo : ℕ → ℤ → Counter → Counter
@@ -126,7 +126,7 @@ flagWrite sub v c = cond (spRises sub v c) (load (on SP c)) (setTo sub v c)
 
 -- 8: LPI, HPI, UFI, OFI go to 0, running and waiting are emptied
 abbrev pub emptied : Counter → Counter
-emptied c = withCauses 0 (0 ∷ 0 ∷ []) 0 (withFlags (quiet (c .flags)) c)
+emptied c = withDesk empty (withFlags (quiet (c .flags)) c)
 
 -- a load, and FE 1 if accepted
 unfoldable pub autoStart : Counter → Counter
@@ -153,15 +153,12 @@ control kind sub v c =
     (cond (eqb kind 4) (flagWrite sub v c)
     (cond (eqb kind 5) (withAcc v c)
     (cond (eqb kind 6) (presetLoad c)
-    (cond (eqb kind 7) (finish c)
+    (cond (eqb kind 7) (routineDone c)
     (cond (eqb kind 8) (enterRun c)
     (cond (eqb kind 9) (outputWrite v c) c)))))))
 
-unfoldable pub apply : ℕ → ℕ → ℤ → Counter → Counter
-apply kind sub v c = cond (eqb kind 1) (sample (levelsOf v) c) (control kind sub v c)
-
 unfoldable pub step : ℕ → ℕ → ℤ → Counter → Counter
-step kind sub v c = cond (legal kind sub v) (apply kind sub v c) c
+step kind sub v c = cond (legal kind sub v) (cond (eqb kind 1) (sample (levelsOf v) c) (control kind sub v c)) c
 
 -- the step where no sample is asked for
 unfoldable pub stepControl : ℕ → ℕ → ℤ → Counter → Counter

@@ -1,12 +1,16 @@
 -- Document 01, "One input sample", last two paragraphs: outputs by a cause, and causes that become interrupts.
 use mathlib.Core.Bool.{Bool, false, cond, _&&_}
-use mathlib.Core.List.{[], _∷_}
-use Prim.Native.Nat.{ℕ, _+_, _-_, _%_}
-use lib.Dec.{eqb, ltb}
-use lib.ListN.{getD, set}
+use Prim.Native.Nat.{ℕ, _%_}
+use lib.Dec.{eqb}
 use Rattle.word.specs.Masks.{bit, setBit, clearBit, merge}
 use Rattle.counter.specs.declared.state.Counter.{Counter}
-use Rattle.counter.specs.Parts.{UIE, UIL, FE, LPM, HPM, UFM, OFM, LPI, HPI, UFI, OFI, lowPreset, highPreset, underflow, overflow, withOut, withFlags, withCauses, on}
+use Rattle.counter.specs.declared.desk.Outcome.{Outcome}
+use Rattle.counter.specs.declared.desk.Outcome.the-variants.{Starts, Waits, Lost}
+use Rattle.counter.specs.declared.desk.Next.{Next}
+use Rattle.counter.specs.declared.desk.Next.the-variants.{Cause, Nothing}
+use Rattle.counter.specs.Desk.{post, finish}
+use Rattle.counter.specs.Parts.{UIE, UIL, FE, LPM, HPM, UFM, OFM, LPI, HPI, UFI, OFI, lowPreset, highPreset, underflow, overflow, withOut}
+use Rattle.counter.specs.Parts.{withFlags, withDesk}
 
 -- ---- outputs
 
@@ -25,15 +29,15 @@ causeWord cause omb hpo lpo out =
 
 -- ---- flags
 
--- the cause's mask
-unfoldable pub masked : ℕ → ℕ → Bool
-masked flags cause =
+-- the cause's mask is 1
+unfoldable pub unmasked : ℕ → ℕ → Bool
+unmasked flags cause =
     cond (eqb cause lowPreset) (bit flags LPM)
     (cond (eqb cause highPreset) (bit flags HPM) (cond (eqb cause underflow) (bit flags UFM) (cond (eqb cause overflow) (bit flags OFM) false)))
 
 -- a cause becomes an interrupt only if FE, UIE and its mask are 1
 unfoldable pub enabled : ℕ → ℕ → Bool
-enabled flags cause = bit flags FE && bit flags UIE && masked flags cause
+enabled flags cause = bit flags FE && bit flags UIE && unmasked flags cause
 
 -- LPI, HPI, UFI and OFI at 0
 unfoldable pub quiet : ℕ → ℕ
@@ -46,34 +50,31 @@ started cause flags =
     (cond (eqb cause highPreset) (setBit (quiet flags) HPI)
     (cond (eqb cause underflow) (setBit (quiet flags) UFI) (cond (eqb cause overflow) (setBit (quiet flags) OFI) (quiet flags))))
 
--- ---- the running cause and the waiting ones
+-- a cause that starts, waits or is lost: UIL 1 if it is lost
+unfoldable pub postedFlags : Outcome → ℕ → ℕ → ℕ
+postedFlags Starts cause flags = started cause flags
+postedFlags Waits cause flags = flags
+postedFlags Lost cause flags = setBit flags UIL
 
-abbrev pub starting : ℕ → Counter → Counter
-starting cause c = withCauses cause (c .waiting) (c .queued) (withFlags (started cause (c .flags)) c)
+-- the cause that starts when a routine is done, if there is one
+unfoldable pub finishedFlags : Next → ℕ → ℕ
+finishedFlags (Cause cause) flags = started cause flags
+finishedFlags Nothing flags = flags
 
-abbrev pub waiting : ℕ → Counter → Counter
-waiting cause c = withCauses (c .running) (set (c .waiting) (c .queued) cause) (c .queued + 1) c
+-- ---- interrupts
 
--- none running: it starts; fewer than two waiting: it waits; else UIL 1, and it is lost
-unfoldable pub post : ℕ → Counter → Counter
-post cause c = cond (eqb (c .running) 0) (starting cause c) (cond (ltb (c .queued) 2) (waiting cause c) (on UIL c))
+-- a cause becomes an interrupt
+unfoldable pub interrupt : ℕ → Counter → Counter
+interrupt cause c =
+    withFlags (postedFlags (post cause (c .desk) .outcome) cause (c .flags)) (withDesk (post cause (c .desk) .desk) c)
 
-abbrev pub resting : Counter → Counter
-resting c = withCauses 0 (c .waiting) (c .queued) c
-
--- the first waiting cause starts, the second moves up
-abbrev pub advancing : Counter → Counter
-advancing c =
-    withCauses (getD (c .waiting) 0 0) (getD (c .waiting) 1 0 ∷ 0 ∷ []) (c .queued - 1)
-    (withFlags (started (getD (c .waiting) 0 0) (c .flags)) c)
-
--- routine done: the first waiting cause starts, or none runs; no effect if none runs
-unfoldable pub finish : Counter → Counter
-finish c = cond (eqb (c .running) 0) c (cond (eqb (c .queued) 0) (resting c) (advancing c))
+-- the routine is done
+unfoldable pub routineDone : Counter → Counter
+routineDone c = withFlags (finishedFlags (finish (c .desk) .next) (c .flags)) (withDesk (finish (c .desk) .desk) c)
 
 -- outputs go by the cause whether or not it becomes an interrupt; a cause that does not is dropped
 abbrev pub withOutputs : ℕ → Counter → Counter
 withOutputs cause c = withOut (causeWord cause (c .active .omb) (c .active .hpo) (c .active .lpo) (c .out)) c
 
 unfoldable pub raise : ℕ → Counter → Counter
-raise cause c = cond (enabled (c .flags) cause) (post cause (withOutputs cause c)) (withOutputs cause c)
+raise cause c = cond (enabled (c .flags) cause) (interrupt cause (withOutputs cause c)) (withOutputs cause c)

@@ -1,4 +1,5 @@
 -- Document 01's counter, section by section, in the paper's order.
+pub mod Desk
 pub mod Parts
 pub mod Shown
 pub mod Loading

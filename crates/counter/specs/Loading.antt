@@ -2,14 +2,14 @@
 use mathlib.Core.Path.{_≡_}
 use mathlib.Core.Bool.{Bool, true, false, cond, not, _&&_, _||_}
 use mathlib.Core.List.{List, [], _∷_}
-use Prim.Native.Nat.{ℕ, _<_}
+use Prim.Native.Nat.{ℕ, suc, _<_}
 use lib.Dec.{eqb, ltb}
-use lib.ListN.{getD}
+use lib.ListN.{length, getD}
 use lib.IntN.{ℤ, pos}
 use lib.Signed.{ltZ, leZ}
 use Rattle.counter.specs.declared.state.Settings.{Settings}
 use Rattle.counter.specs.declared.state.Counter.{Counter}
-use Rattle.counter.specs.Parts.{withActive, withEr, flag, on, off, ED, LOADED, modeOf, upOnly}
+use Rattle.counter.specs.Parts.{withHip, withLop, withHpo, withLpo, withActive, withEr, flag, on, off, ED, LOADED, noSettings, modeOf, upOnly}
 
 -- ---- the rules, each as its row states it
 
@@ -33,15 +33,34 @@ rule4 hip ovf = leZ hip ovf
 abbrev pub rule5 : ℕ → ℤ → ℤ → Bool
 rule5 m lop unf = upOnly m || leZ unf lop
 
--- the first of rules 3 to 5 that is broken, 0 if none is
-unfoldable pub presetBroken : ℕ → ℤ → ℤ → ℤ → ℤ → ℕ
-presetBroken m hip lop ovf unf =
-    cond (rule3 m hip lop) (cond (rule4 hip ovf) (cond (rule5 m lop unf) 0 5) 4) 3
+-- the tests of rules 3 to 5, in their order
+abbrev pub presetTests : ℕ → ℤ → ℤ → ℤ → ℤ → List Bool
+presetTests m hip lop ovf unf = rule3 m hip lop ∷ rule4 hip ovf ∷ rule5 m lop unf ∷ []
 
--- the first of all rules that is broken, 0 if none is
+-- the same for the presets of s with MOD, OVF and UNF of a
+abbrev pub presetRules : Settings → Settings → List Bool
+presetRules s a = presetTests (modeOf (a .mode)) (s .hip) (s .lop) (a .ovf) (a .unf)
+
+-- the tests of all rules, in their order
+abbrev pub rules : Settings → List Bool
+rules s =
+    rule1 (s .pfn)
+    ∷ rule2 (modeOf (s .mode))
+    ∷ presetRules s s
+
+-- how many rules there are, whatever the settings; ER is at most this
+abbrev pub ruleCount : ℕ
+ruleCount = length (rules noSettings)
+
+-- ---- the first broken rule
+
+-- the number of the first test that fails, the tests counted from n; 0 if none fails
+unfoldable pub brokenFrom : ℕ → List Bool → ℕ
+brokenFrom n [] = 0
+brokenFrom n (b ∷ bs) = cond b (brokenFrom (suc n) bs) n
+
 unfoldable pub firstBroken : Settings → ℕ
-firstBroken s =
-    cond (rule1 (s .pfn)) (cond (rule2 (modeOf (s .mode))) (presetBroken (modeOf (s .mode)) (s .hip) (s .lop) (s .ovf) (s .unf)) 2) 1
+firstBroken s = brokenFrom 1 (rules s)
 
 -- ---- what a load leaves
 
@@ -62,12 +81,12 @@ load c = cond (eqb (firstBroken (c .staged)) 0) (accepted c) (rejected (firstBro
 
 -- ---- the preset load (HSL): staged HIP, LOP, HPO, LPO with active MOD, OVF, UNF
 
-unfoldable pub hslBroken : Settings → Settings → ℕ
-hslBroken s a = presetBroken (modeOf (a .mode)) (s .hip) (s .lop) (a .ovf) (a .unf)
+unfoldable pub presetBroken : Settings → Settings → ℕ
+presetBroken s a = brokenFrom 3 (presetRules s a)
 
 -- active settings with the presets of the staged ones
 abbrev pub withPresets : Settings → Settings → Settings
-withPresets s a = record { pfn = a .pfn; mode = a .mode; hip = s .hip; lop = s .lop; ovf = a .ovf; unf = a .unf; omb = a .omb; hpo = s .hpo; lpo = s .lpo }
+withPresets s a = withHip (s .hip) (withLop (s .lop) (withHpo (s .hpo) (withLpo (s .lpo) a)))
 
 abbrev pub presetAccepted : Counter → Counter
 presetAccepted c = withoutError (withActive (withPresets (c .staged) (c .active)) c)
@@ -76,25 +95,10 @@ presetAccepted c = withoutError (withActive (withPresets (c .staged) (c .active)
 unfoldable pub presetLoad : Counter → Counter
 presetLoad c =
     cond (flag c LOADED)
-    (cond (eqb (hslBroken (c .staged) (c .active)) 0) (presetAccepted c) (rejected (hslBroken (c .staged) (c .active)) c))
+    (cond (eqb (presetBroken (c .staged) (c .active)) 0) (presetAccepted c) (rejected (presetBroken (c .staged) (c .active)) c))
     c
 
 -- ---- what the laws of loading say
-
--- the rules' tests, in their order
-abbrev pub rules : Settings → List Bool
-rules s =
-    rule1 (s .pfn)
-    ∷ rule2 (modeOf (s .mode))
-    ∷ rule3 (modeOf (s .mode)) (s .hip) (s .lop)
-    ∷ rule4 (s .hip) (s .ovf)
-    ∷ rule5 (modeOf (s .mode)) (s .lop) (s .unf)
-    ∷ []
-
--- rules 3 to 5 of a preset load
-abbrev pub presetRules : Settings → Settings → List Bool
-presetRules s a =
-    rule3 (modeOf (a .mode)) (s .hip) (s .lop) ∷ rule4 (s .hip) (a .ovf) ∷ rule5 (modeOf (a .mode)) (s .lop) (a .unf) ∷ []
 
 -- the test at place k, counted from 0, is the first that fails
 pub record First (tests : List Bool) (k : ℕ) : Type 0 where
@@ -102,8 +106,8 @@ pub record First (tests : List Bool) (k : ℕ) : Type 0 where
   pub before : (i : ℕ) → i < k → getD tests i true ≡ true
 
 -- no test fails
-abbrev pub None : List Bool → Type 0
-None tests = (i : ℕ) → getD tests i true ≡ true
+abbrev pub AllPass : List Bool → Type 0
+AllPass tests = (i : ℕ) → getD tests i true ≡ true
 
 -- what every load leaves as it was: all parts but active, ER and the flags, and all flags but ED and LOADED
 pub record Untouched (c d : Counter) : Type 0 where
@@ -111,9 +115,7 @@ pub record Untouched (c d : Counter) : Type 0 where
   pub acc : d .acc ≡ c .acc
   pub out : d .out ≡ c .out
   pub levels : d .levels ≡ c .levels
-  pub running : d .running ≡ c .running
-  pub waiting : d .waiting ≡ c .waiting
-  pub queued : d .queued ≡ c .queued
+  pub desk : d .desk ≡ c .desk
   pub flags : (n : ℕ) → n < 32 → (n ≡ ED → ⊥) → (n ≡ LOADED → ⊥) → flag d n ≡ flag c n
 
 -- an accepted load of the settings s

@@ -1,12 +1,13 @@
 -- Document 01, "The counter's parts": flags by bit, causes, the counter with one part changed, and fresh.
 use mathlib.Core.Bool.{Bool, cond}
-use mathlib.Core.List.{List, [], _∷_}
 use Prim.Native.Nat.{ℕ}
 use lib.Dec.{ltb}
 use lib.IntN.{ℤ, pos, negsuc}
 use Rattle.word.specs.Masks.{bit, setBit, clearBit}
+use Rattle.counter.specs.declared.desk.Desk.{Desk}
 use Rattle.counter.specs.declared.state.Settings.{Settings}
 use Rattle.counter.specs.declared.state.Counter.{Counter}
+use Rattle.counter.specs.Desk.{empty}
 
 -- ---- flags, by bit
 
@@ -84,32 +85,64 @@ underflow = 3
 abbrev pub overflow : ℕ
 overflow = 4
 
+-- the causes are the numbers from 1 to this
+abbrev pub causeCount : ℕ
+causeCount = 4
+
+-- ---- settings with one part changed
+
+abbrev pub withPfn : ℤ → Settings → Settings
+withPfn v s = record { pfn = v; mode = s .mode; hip = s .hip; lop = s .lop; ovf = s .ovf; unf = s .unf; omb = s .omb; hpo = s .hpo; lpo = s .lpo }
+
+abbrev pub withMode : ℤ → Settings → Settings
+withMode v s = record { pfn = s .pfn; mode = v; hip = s .hip; lop = s .lop; ovf = s .ovf; unf = s .unf; omb = s .omb; hpo = s .hpo; lpo = s .lpo }
+
+abbrev pub withHip : ℤ → Settings → Settings
+withHip v s = record { pfn = s .pfn; mode = s .mode; hip = v; lop = s .lop; ovf = s .ovf; unf = s .unf; omb = s .omb; hpo = s .hpo; lpo = s .lpo }
+
+abbrev pub withLop : ℤ → Settings → Settings
+withLop v s = record { pfn = s .pfn; mode = s .mode; hip = s .hip; lop = v; ovf = s .ovf; unf = s .unf; omb = s .omb; hpo = s .hpo; lpo = s .lpo }
+
+abbrev pub withOvf : ℤ → Settings → Settings
+withOvf v s = record { pfn = s .pfn; mode = s .mode; hip = s .hip; lop = s .lop; ovf = v; unf = s .unf; omb = s .omb; hpo = s .hpo; lpo = s .lpo }
+
+abbrev pub withUnf : ℤ → Settings → Settings
+withUnf v s = record { pfn = s .pfn; mode = s .mode; hip = s .hip; lop = s .lop; ovf = s .ovf; unf = v; omb = s .omb; hpo = s .hpo; lpo = s .lpo }
+
+abbrev pub withOmb : ℕ → Settings → Settings
+withOmb w s = record { pfn = s .pfn; mode = s .mode; hip = s .hip; lop = s .lop; ovf = s .ovf; unf = s .unf; omb = w; hpo = s .hpo; lpo = s .lpo }
+
+abbrev pub withHpo : ℕ → Settings → Settings
+withHpo w s = record { pfn = s .pfn; mode = s .mode; hip = s .hip; lop = s .lop; ovf = s .ovf; unf = s .unf; omb = s .omb; hpo = w; lpo = s .lpo }
+
+abbrev pub withLpo : ℕ → Settings → Settings
+withLpo w s = record { pfn = s .pfn; mode = s .mode; hip = s .hip; lop = s .lop; ovf = s .ovf; unf = s .unf; omb = s .omb; hpo = s .hpo; lpo = w }
+
 -- ---- the counter with one part changed
 
 abbrev pub withStaged : Settings → Counter → Counter
-withStaged s c = record { staged = s; active = c .active; acc = c .acc; out = c .out; er = c .er; flags = c .flags; levels = c .levels; running = c .running; waiting = c .waiting; queued = c .queued }
+withStaged s c = record { staged = s; active = c .active; acc = c .acc; out = c .out; er = c .er; flags = c .flags; levels = c .levels; desk = c .desk }
 
 abbrev pub withActive : Settings → Counter → Counter
-withActive s c = record { staged = c .staged; active = s; acc = c .acc; out = c .out; er = c .er; flags = c .flags; levels = c .levels; running = c .running; waiting = c .waiting; queued = c .queued }
+withActive s c = record { staged = c .staged; active = s; acc = c .acc; out = c .out; er = c .er; flags = c .flags; levels = c .levels; desk = c .desk }
 
 abbrev pub withAcc : ℤ → Counter → Counter
-withAcc v c = record { staged = c .staged; active = c .active; acc = v; out = c .out; er = c .er; flags = c .flags; levels = c .levels; running = c .running; waiting = c .waiting; queued = c .queued }
+withAcc v c = record { staged = c .staged; active = c .active; acc = v; out = c .out; er = c .er; flags = c .flags; levels = c .levels; desk = c .desk }
 
 abbrev pub withOut : ℕ → Counter → Counter
-withOut w c = record { staged = c .staged; active = c .active; acc = c .acc; out = w; er = c .er; flags = c .flags; levels = c .levels; running = c .running; waiting = c .waiting; queued = c .queued }
+withOut w c = record { staged = c .staged; active = c .active; acc = c .acc; out = w; er = c .er; flags = c .flags; levels = c .levels; desk = c .desk }
 
 abbrev pub withEr : ℕ → Counter → Counter
-withEr n c = record { staged = c .staged; active = c .active; acc = c .acc; out = c .out; er = n; flags = c .flags; levels = c .levels; running = c .running; waiting = c .waiting; queued = c .queued }
+withEr n c = record { staged = c .staged; active = c .active; acc = c .acc; out = c .out; er = n; flags = c .flags; levels = c .levels; desk = c .desk }
 
 abbrev pub withFlags : ℕ → Counter → Counter
-withFlags w c = record { staged = c .staged; active = c .active; acc = c .acc; out = c .out; er = c .er; flags = w; levels = c .levels; running = c .running; waiting = c .waiting; queued = c .queued }
+withFlags w c = record { staged = c .staged; active = c .active; acc = c .acc; out = c .out; er = c .er; flags = w; levels = c .levels; desk = c .desk }
 
 abbrev pub withLevels : ℕ → Counter → Counter
-withLevels w c = record { staged = c .staged; active = c .active; acc = c .acc; out = c .out; er = c .er; flags = c .flags; levels = w; running = c .running; waiting = c .waiting; queued = c .queued }
+withLevels w c = record { staged = c .staged; active = c .active; acc = c .acc; out = c .out; er = c .er; flags = c .flags; levels = w; desk = c .desk }
 
--- the running cause, and the waiting ones beside their number
-abbrev pub withCauses : ℕ → List ℕ → ℕ → Counter → Counter
-withCauses r w n c = record { staged = c .staged; active = c .active; acc = c .acc; out = c .out; er = c .er; flags = c .flags; levels = c .levels; running = r; waiting = w; queued = n }
+abbrev pub withDesk : Desk → Counter → Counter
+withDesk d c = record { staged = c .staged; active = c .active; acc = c .acc; out = c .out; er = c .er; flags = c .flags; levels = c .levels; desk = d }
 
 -- ---- flags of the counter
 
@@ -129,7 +162,8 @@ abbrev pub noSettings : Settings
 noSettings = record { pfn = pos 0; mode = pos 0; hip = pos 0; lop = pos 0; ovf = pos 0; unf = pos 0; omb = 0; hpo = 0; lpo = 0 }
 
 abbrev pub freshSettings : Settings
-freshSettings = record { pfn = pos 0; mode = pos 0; hip = pos 2147483647; lop = negsuc 2147483647; ovf = pos 2147483647; unf = negsuc 2147483647; omb = 0; hpo = 0; lpo = 0 }
+freshSettings =
+    withHip (pos 2147483647) (withLop (negsuc 2147483647) (withOvf (pos 2147483647) (withUnf (negsuc 2147483647) noSettings)))
 
 -- LPM, HPM, UFM and OFM are 1; nothing is loaded
 unfoldable pub fresh : Counter
@@ -138,7 +172,7 @@ fresh =
     (on HPM
     (on UFM
     (on OFM
-    (record { staged = freshSettings; active = noSettings; acc = pos 0; out = 0; er = 0; flags = 0; levels = 0; running = 0; waiting = 0 ∷ 0 ∷ []; queued = 0 }))))
+    (record { staged = freshSettings; active = noSettings; acc = pos 0; out = 0; er = 0; flags = 0; levels = 0; desk = empty }))))
 
 -- ---- modes
 

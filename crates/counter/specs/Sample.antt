@@ -11,7 +11,8 @@ use Rattle.counter.specs.declared.state.Counted.{Counted}
 use Rattle.counter.specs.declared.state.Sampled.{Sampled}
 use Rattle.counter.specs.declared.state.Count.{Count}
 use Rattle.counter.specs.declared.state.Count.the-variants.{None, Up, Down}
-use Rattle.counter.specs.Parts.{CE, DIR, UF, OF, MD, LOADED, lowPreset, highPreset, underflow, overflow, withAcc, withFlags, withLevels, flag, upOnly, mode}
+use Rattle.counter.specs.Parts.{CE, DIR, UF, OF, MD, LOADED, lowPreset, highPreset, underflow, overflow, withAcc, withFlags, withLevels, flag}
+use Rattle.counter.specs.Parts.{upOnly, mode}
 use Rattle.counter.specs.Interrupts.{raise}
 
 -- ---- edges compare stored with new levels
@@ -101,21 +102,21 @@ countedBy Down c = countedDown c
 
 -- ---- the sample
 
--- input 2 rises in a mode that has a reset
-unfoldable pub resets : ℕ → ℕ → ℕ → Bool
-resets m old new = hasReset m && rises old new 2
+-- a reset: settings are loaded, and input 2 rises in a mode that has a reset
+unfoldable pub resets : ℕ → Counter → Bool
+resets new c = flag c LOADED && hasReset (mode c) && rises (c .levels) new 2
 
--- whether a sample may count: CE is 1, and no hold (input 3) is on
-unfoldable pub counting : ℕ → ℕ → ℕ → Bool
-counting m flags new = bit flags CE && not (hasReset m && bit new 3)
+-- settings are loaded, no reset, CE is 1, and no hold (input 3) is on
+unfoldable pub mayCount : ℕ → Counter → Bool
+mayCount new c = flag c LOADED && not (resets new c) && flag c CE && not (hasReset (mode c) && bit new 3)
 
--- With nothing loaded nothing moves. A reset: ACC 0, no count, nothing raised, whatever CE and hold are.
+-- the count that a sample makes
+unfoldable pub count : ℕ → Counter → Count
+count new c = cond (mayCount new c) (direction (mode c) (c .levels) new) None
+
+-- A reset: ACC 0, no count, nothing raised, whatever CE and hold are. Else the count, if there is one.
 unfoldable pub sampled : ℕ → Counter → Sampled
-sampled new c =
-    cond (flag c LOADED)
-    (cond (resets (mode c) (c .levels) new) (sampledAs (pos 0) (c .flags) 0)
-    (cond (counting (mode c) (c .flags) new) (countedBy (direction (mode c) (c .levels) new) c) (unmoved c)))
-    (unmoved c)
+sampled new c = cond (resets new c) (sampledAs (pos 0) (c .flags) 0) (countedBy (count new c) c)
 
 -- ACC and the flags are stored, then the cause is raised
 abbrev pub after : Sampled → Counter → Counter

@@ -7,11 +7,11 @@ use Rattle.counter.specs.Parts.{flag, CE, LOADED, mode, upOnly}
 
 -- a cause runs
 unfoldable pub uix : Counter → Bool
-uix c = not (eqb (c .running) 0)
+uix c = not (eqb (c .desk .running) 0)
 
 -- one waits
 unfoldable pub uip : Counter → Bool
-uip c = not (eqb (c .queued) 0)
+uip c = not (eqb (c .desk .queued) 0)
 
 unfoldable pub cu : Counter → Bool
 cu c = flag c CE

@@ -1,18 +1,19 @@
--- Document 01, "Snapshot, 68 bytes": well formed, on states. The waiting causes are those that stand in the snapshot's two places.
+-- Document 01, "Snapshot, 68 bytes": well formed, by parts and on states.
 use mathlib.Core.Path.{_≡_}
 use mathlib.Core.Bool.{Bool, true, cond, not, _&&_, _||_, Bool·beq}
 use Prim.Native.Nat.{ℕ, _^_, _<_}
 use lib.Dec.{eqb, leb, ltb}
 use lib.IntN.{pos}
-use lib.ListN.{length, getD}
+use lib.ListN.{length}
 use mir.Syntax.{w16, w32}
 use mir.Val.{SFits}
+use Rattle.word.specs.Masks.{bit}
 use Rattle.word.specs.TwosComplement.{eqZ}
 use Rattle.counter.specs.declared.state.Settings.{Settings}
 use Rattle.counter.specs.declared.state.Counter.{Counter}
-use Rattle.counter.specs.Parts.{flag, ED, LOADED}
-use Rattle.counter.specs.Loading.{firstBroken}
-use Rattle.counter.specs.Events.{from}
+use Rattle.counter.specs.Desk.{first, second, queuedOf}
+use Rattle.counter.specs.Parts.{ED, LOADED, causeCount}
+use Rattle.counter.specs.Loading.{ruleCount, firstBroken}
 
 -- every setting is 0
 unfoldable pub isNone : Settings → Bool
@@ -27,35 +28,43 @@ isNone s =
     && eqb (s .hpo) 0
     && eqb (s .lpo) 0
 
--- active passes rules 1-5 if loaded and is all 0 if not
-unfoldable pub activeFormed : Counter → Bool
-activeFormed c = cond (flag c LOADED) (eqb (firstBroken (c .active)) 0) (isNone (c .active))
+-- ---- by parts, which are a state's or stand in a snapshot's bytes
 
--- `n` causes from the front, each 1 to 4, and 0 past them
-unfoldable pub queueFormed : ℕ → ℕ → ℕ → Bool
-queueFormed first second n =
-    cond (eqb n 0) (eqb first 0 && eqb second 0)
-    (cond (eqb n 1) (from 1 4 first && eqb second 0) (eqb n 2 && from 1 4 first && from 1 4 second))
+-- causes up to `most`, second waiting only with a first, first only with one running
+abbrev pub causesFormed : ℕ → ℕ → ℕ → ℕ → Bool
+causesFormed most running first second =
+    leb running most
+    && leb first most
+    && leb second most
+    && (eqb second 0 || not (eqb first 0))
+    && (eqb first 0 || not (eqb running 0))
 
--- a first waiting cause only with one running
-unfoldable pub causesFormed : Counter → Bool
-causesFormed c =
-    leb (c .running) 4
-    && queueFormed (getD (c .waiting) 0 0) (getD (c .waiting) 1 0) (c .queued)
-    && (eqb (c .queued) 0 || not (eqb (c .running) 0))
+-- ER 0 or a rule's number, ED = 1 exactly if ER is not 0
+abbrev pub errorFormed : ℕ → ℕ → Bool
+errorFormed er flags = leb er ruleCount && Bool·beq (bit flags ED) (not (eqb er 0))
 
--- ED = 1 exactly if ER is not 0
-unfoldable pub errorFormed : Counter → Bool
-errorFormed c = leb (c .er) 5 && Bool·beq (flag c ED) (not (eqb (c .er) 0))
+-- active passes the rules if loaded and is all 0 if not
+abbrev pub activeFormed : ℕ → Settings → Bool
+activeFormed flags active = cond (bit flags LOADED) (eqb (firstBroken active) 0) (isNone active)
 
+-- Flag bits 20-31 zero, output bits 12-15 zero, levels <= 15; then the causes, ER, and the active settings. The parts stand in the
+-- snapshot's order.
+unfoldable pub partsFormed : Settings → ℕ → ℕ → ℕ → ℕ → ℕ → ℕ → ℕ → Bool
+partsFormed active out er flags levels running first second =
+    ltb flags (2 ^ 20)
+    && ltb out (2 ^ 12)
+    && leb levels 15
+    && causesFormed causeCount running first second
+    && errorFormed er flags
+    && activeFormed flags active
+
+-- ---- a state
+
+-- its parts, and a number of waiting causes that is that of the two places
 unfoldable pub wellFormed : Counter → Bool
 wellFormed c =
-    ltb (c .flags) (2 ^ 20)
-    && ltb (c .out) (2 ^ 12)
-    && leb (c .levels) 15
-    && causesFormed c
-    && errorFormed c
-    && activeFormed c
+    partsFormed (c .active) (c .out) (c .er) (c .flags) (c .levels) (c .desk .running) (first (c .desk)) (second (c .desk))
+    && eqb (c .desk .queued) (queuedOf (first (c .desk)) (second (c .desk)))
 
 -- Each part is a value of its type. Code has this of itself; a state as the theory of replay has it says so.
 pub record SettingsTyped (s : Settings) : Type 0 where
@@ -73,7 +82,7 @@ pub record Typed (c : Counter) : Type 0 where
   pub staged : SettingsTyped (c .staged)
   pub active : SettingsTyped (c .active)
   pub acc : SFits w32 (c .acc)
-  pub waiting : length (c .waiting) ≡ 2
+  pub waiting : length (c .desk .waiting) ≡ 2
 
 -- a well-formed state
 pub record Good (c : Counter) : Type 0 where

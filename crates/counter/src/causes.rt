@@ -1,16 +1,17 @@
-// Causes: which become interrupts, and the running and waiting ones.
+// Causes: which become interrupts, and the flags that tell what became of them.
+use super::desk;
+use super::desk::Next;
+use super::desk::Outcome;
 use super::flag;
 use super::outputs;
 use super::state::Counter;
 use word::bits;
 ghost use mathlib.Core.Path.{_≡_};
-ghost use Prim.Native.Nat.{_<_};
-ghost use Rattle.counter.specs.Parts.{UIL, on};
-ghost use Rattle.counter.specs.Interrupts.{masked, enabled, quiet, started, starting, waiting, resting, advancing, post, finish, withOutputs, raise};
+ghost use Rattle.counter.specs.Interrupts.{unmasked, enabled, quiet, started, postedFlags, finishedFlags, interrupt, routineDone, withOutputs, raise};
 
-// The cause's mask.
-fn masked(flags: u32, cause: u8) -> bool
-    ensures { λ r. ⌜ r ≡ masked flags cause ⌝ }
+// Whether the cause's mask is 1.
+fn unmasked(flags: u32, cause: u8) -> bool
+    ensures { λ r. ⌜ r ≡ unmasked flags cause ⌝ }
 {
     match cause {
         1 => bits::has(flags, flag::LPM),
@@ -25,7 +26,7 @@ fn masked(flags: u32, cause: u8) -> bool
 fn enabled(flags: u32, cause: u8) -> bool
     ensures { λ r. ⌜ r ≡ enabled flags cause ⌝ }
 {
-    bits::has(flags, flag::FE) & bits::has(flags, flag::UIE) & masked(flags, cause)
+    bits::has(flags, flag::FE) & bits::has(flags, flag::UIE) & unmasked(flags, cause)
 }
 
 // LPI, HPI, UFI and OFI at 0.
@@ -55,86 +56,53 @@ fn started(cause: u8, flags: u32) -> u32
     }
 }
 
-// Running with nothing before it: the cause starts.
-fn start(c: Counter, cause: u8) -> Counter
-    ensures { λ r. ⌜ r ≡ starting cause c ⌝ }
+// The flags after a cause is posted: UIL is 1 if it is lost.
+fn posted_flags(outcome: Outcome, cause: u8, flags: u32) -> u32
+    ensures { λ r. ⌜ r ≡ postedFlags outcome cause flags ⌝ }
 {
-    let mut d = c;
-    d.flags = started(cause, c.flags);
-    d.running = cause;
-    d
-}
-
-// The cause waits behind those that wait already.
-fn wait(c: Counter, cause: u8) -> Counter
-    requires { ⌜ c .queued < 2 ⌝ }
-    ensures { λ r. ⌜ r ≡ waiting cause c ⌝ }
-{
-    let at = c.queued as usize;
-    let mut d = c;
-    d.waiting[at] = cause;
-    d.queued = c.queued + 1;
-    d
-}
-
-// The cause is lost.
-fn lose(c: Counter) -> Counter
-    ensures { λ r. ⌜ r ≡ on UIL c ⌝ }
-{
-    let mut d = c;
-    d.flags = bits::set(c.flags, flag::UIL);
-    d
-}
-
-// An interrupt: it starts, waits or is lost.
-pub fn post(c: Counter, cause: u8) -> Counter
-    ensures { λ r. ⌜ r ≡ post cause c ⌝ }
-{
-    if c.running == 0 {
-        start(c, cause)
-    } else {
-        if c.queued < 2 {
-            wait(c, cause)
-        } else {
-            lose(c)
-        }
+    match outcome {
+        Outcome::Starts => started(cause, flags),
+        Outcome::Waits => flags,
+        Outcome::Lost => bits::set(flags, flag::UIL),
     }
 }
 
-// None runs any more.
-fn rest(c: Counter) -> Counter
-    ensures { λ r. ⌜ r ≡ resting c ⌝ }
+// The flags after a routine is done.
+fn finished_flags(next: Next, flags: u32) -> u32
+    ensures { λ r. ⌜ r ≡ finishedFlags next flags ⌝ }
 {
-    let mut d = c;
-    d.running = 0;
-    d
+    match next {
+        Next::Cause(cause) => started(cause, flags),
+        Next::Nothing => flags,
+    }
 }
 
-// The first waiting cause starts; the second moves up.
-fn advance(c: Counter) -> Counter
-    requires { ⌜ 0 < c .queued ⌝ }
-    ensures { λ r. ⌜ r ≡ advancing c ⌝ }
+// An interrupt: the desk takes it, and the flags tell what became of it.
+fn interrupt(c: Counter, cause: u8) -> Counter
+    ensures { λ r. ⌜ r ≡ interrupt cause c ⌝ }
 {
-    let first = c.waiting[0];
-    let second = c.waiting[1];
-    let left = [second, 0u8];
+    let before = c.desk;
+    let r = desk::post(before, cause);
+    let after = r.desk;
+    let outcome = r.outcome;
     let mut d = c;
-    d.flags = started(first, c.flags);
-    d.running = first;
-    d.waiting = left;
-    d.queued = c.queued - 1;
+    d.desk = after;
+    d.flags = posted_flags(outcome, cause, c.flags);
     d
 }
 
 // The routine is done.
-pub fn finish(c: Counter) -> Counter
-    ensures { λ r. ⌜ r ≡ finish c ⌝ }
+pub fn routine_done(c: Counter) -> Counter
+    ensures { λ r. ⌜ r ≡ routineDone c ⌝ }
 {
-    if c.running == 0 {
-        c
-    } else {
-        if c.queued == 0 { rest(c) } else { advance(c) }
-    }
+    let before = c.desk;
+    let r = desk::finish(before);
+    let after = r.desk;
+    let next = r.next;
+    let mut d = c;
+    d.desk = after;
+    d.flags = finished_flags(next, c.flags);
+    d
 }
 
 // The outputs that the cause puts.
@@ -153,7 +121,7 @@ pub fn raise(c: Counter, cause: u8) -> Counter
 {
     let d = with_outputs(c, cause);
     if enabled(c.flags, cause) {
-        post(d, cause)
+        interrupt(d, cause)
     } else {
         d
     }

@@ -2,6 +2,7 @@
 // call them and store parts; the step goes by the event's kind.
 pub mod causes;
 pub mod counting;
+pub mod desk;
 pub mod flag;
 pub mod inputs;
 pub mod legality;
@@ -12,3 +13,4 @@ pub mod rules;
 pub mod sampling;
 pub mod state;
 pub mod stepping;
+pub mod wellformed;

@@ -5,7 +5,7 @@ use super::state::Counter;
 use super::state::Settings;
 use word::bits;
 ghost use mathlib.Core.Path.{_≡_};
-ghost use Rattle.counter.specs.Loading.{withoutError, accepted, rejected, load, withPresets, hslBroken, presetAccepted, presetLoad};
+ghost use Rattle.counter.specs.Loading.{withoutError, accepted, rejected, load, withPresets, presetAccepted, presetLoad};
 
 // ED 0, ER 0.
 fn without_error(c: Counter) -> Counter
@@ -74,13 +74,6 @@ fn accept_presets(c: Counter) -> Counter
     without_error(d)
 }
 
-// The first of rules 3 to 5 that a preset load breaks.
-fn presets_broken(s: Settings, a: Settings) -> u16
-    ensures { λ r. ⌜ r ≡ hslBroken s a ⌝ }
-{
-    rules::preset_broken(rules::mode_of(a.mode), s.hip, s.lop, a.ovf, a.unf)
-}
-
 // A load of the presets alone; no effect if nothing is loaded.
 pub fn preset_load(c: Counter) -> Counter
     ensures { λ r. ⌜ r ≡ presetLoad c ⌝ }
@@ -88,7 +81,7 @@ pub fn preset_load(c: Counter) -> Counter
     let s = c.staged;
     let a = c.active;
     if bits::has(c.flags, flag::LOADED) {
-        let broken = presets_broken(s, a);
+        let broken = rules::preset_broken(s, a);
         if broken == 0 {
             accept_presets(c)
         } else {

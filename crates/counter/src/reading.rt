@@ -10,14 +10,16 @@ ghost use Rattle.counter.specs.Shown.{uix, uip, cu, twoWay, cd, hpr, lpr
 pub fn uix(c: Counter) -> bool
     ensures { λ r. ⌜ r ≡ uix c ⌝ }
 {
-    !(c.running == 0)
+    let d = c.desk;
+    !(d.running == 0)
 }
 
 // A cause waits.
 pub fn uip(c: Counter) -> bool
     ensures { λ r. ⌜ r ≡ uip c ⌝ }
 {
-    !(c.queued == 0)
+    let d = c.desk;
+    !(d.queued == 0)
 }
 
 pub fn cu(c: Counter) -> bool
@@ -30,8 +32,7 @@ pub fn cu(c: Counter) -> bool
 fn two_way(c: Counter) -> bool
     ensures { λ r. ⌜ r ≡ twoWay c ⌝ }
 {
-    let a = c.active;
-    bits::has(c.flags, flag::LOADED) & !rules::up_only(rules::mode_of(a.mode))
+    bits::has(c.flags, flag::LOADED) & !rules::up_only(rules::mode(c))
 }
 
 pub fn cd(c: Counter) -> bool

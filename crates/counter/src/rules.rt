@@ -1,8 +1,13 @@
 // Loading settings: the rules in their order.
+use super::state::Counter;
 use super::state::Settings;
 ghost use mathlib.Core.Path.{_≡_};
-ghost use Rattle.counter.specs.Parts.{modeOf, upOnly};
-ghost use Rattle.counter.specs.Loading.{rule1, rule3, rule4, rule5, presetBroken, firstBroken};
+ghost use mathlib.Core.Bool.{cond};
+ghost use Rattle.counter.specs.Parts.{modeOf, mode, upOnly};
+ghost use Rattle.counter.specs.Loading.{rule1, rule3, rule4, rule5, presetTests, brokenFrom, firstBroken, presetBroken};
+
+// How many rules there are.
+pub const COUNT: u16 = 5;
 
 // MOD as a number, 8 for every value that is no mode.
 pub fn mode_of(mode: i16) -> u8
@@ -12,6 +17,14 @@ pub fn mode_of(mode: i16) -> u8
         0..=7 => mode as u8,
         _ => 8,
     }
+}
+
+// The active mode.
+pub fn mode(c: Counter) -> u8
+    ensures { λ r. ⌜ r ≡ mode c ⌝ }
+{
+    let a = c.active;
+    mode_of(a.mode)
 }
 
 // Modes 0 and 1 count up only.
@@ -45,33 +58,34 @@ fn low_rule(m: u8, lop: i32, unf: i32) -> bool
     (m < 2) | (unf <= lop)
 }
 
-// The first of rules 3 to 5 that is broken, 0 if none is.
-pub fn preset_broken(m: u8, hip: i32, lop: i32, ovf: i32, unf: i32) -> u16
-    ensures { λ r. ⌜ r ≡ presetBroken m hip lop ovf unf ⌝ }
+// The number n if its rule is broken, else the number that later rules give.
+fn broken_or(passes: bool, n: u16, later: u16) -> u16
+    ensures { λ r. ⌜ r ≡ cond passes later n ⌝ }
 {
-    if high_rule(m, hip, lop) {
-        if overflow_rule(hip, ovf) {
-            if low_rule(m, lop, unf) { 0 } else { 5 }
-        } else {
-            4
-        }
-    } else {
-        3
-    }
+    if passes { later } else { n }
+}
+
+// The first of rules 3 to 5 that is broken, 0 if none is.
+fn limits_broken(m: u8, hip: i32, lop: i32, ovf: i32, unf: i32) -> u16
+    ensures { λ r. ⌜ r ≡ brokenFrom 3 (presetTests m hip lop ovf unf) ⌝ }
+{
+    let low = broken_or(low_rule(m, lop, unf), 5, 0);
+    let within = broken_or(overflow_rule(hip, ovf), 4, low);
+    broken_or(high_rule(m, hip, lop), 3, within)
+}
+
+// The same for the presets of s with the mode and the limits of a.
+pub fn preset_broken(s: Settings, a: Settings) -> u16
+    ensures { λ r. ⌜ r ≡ presetBroken s a ⌝ }
+{
+    limits_broken(mode_of(a.mode), s.hip, s.lop, a.ovf, a.unf)
 }
 
 // The first of all rules that is broken, 0 if none is.
 pub fn first_broken(s: Settings) -> u16
     ensures { λ r. ⌜ r ≡ firstBroken s ⌝ }
 {
-    let m = mode_of(s.mode);
-    if routine_rule(s.pfn) {
-        if m < 8 {
-            preset_broken(m, s.hip, s.lop, s.ovf, s.unf)
-        } else {
-            2
-        }
-    } else {
-        1
-    }
+    let presets = preset_broken(s, s);
+    let mode = broken_or(mode_of(s.mode) < 8, 2, presets);
+    broken_or(routine_rule(s.pfn), 1, mode)
 }

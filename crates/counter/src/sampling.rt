@@ -10,7 +10,7 @@ use super::state::Sampled;
 use word::bits;
 ghost use mathlib.Core.Path.{_≡_};
 ghost use lib.IntN.{pos};
-ghost use Rattle.counter.specs.Sample.{sampledAs, unmoved, countedUp, countedDown, countedBy, resets, counting, sampled, sample};
+ghost use Rattle.counter.specs.Sample.{sampledAs, unmoved, countedUp, countedDown, countedBy, resets, mayCount, count, sampled, sample};
 
 fn unmoved(c: Counter) -> Sampled
     ensures { λ r. ⌜ r ≡ unmoved c ⌝ }
@@ -26,7 +26,7 @@ fn counted_up(c: Counter) -> Sampled
     ensures { λ r. ⌜ r ≡ countedUp c ⌝ }
 {
     let a = c.active;
-    let single = rules::up_only(rules::mode_of(a.mode));
+    let single = rules::up_only(rules::mode(c));
     let r = counting::up(single, c.acc, a.hip, a.ovf, a.unf);
     Sampled {
         acc: r.acc,
@@ -57,18 +57,34 @@ fn counted_by(way: Count, c: Counter) -> Sampled
     }
 }
 
-// Whether the sample resets: input 2 rises in a mode that has a reset.
-fn resets(m: u8, old: u8, new: u8) -> bool
-    ensures { λ r. ⌜ r ≡ resets m old new ⌝ }
+// Whether the sample resets: settings are loaded, and input 2 rises in a mode that has a reset.
+fn resets(c: Counter, new: u8) -> bool
+    ensures { λ r. ⌜ r ≡ resets new c ⌝ }
 {
-    inputs::has_reset(m) & inputs::rises(old, new, 2)
+    bits::has(c.flags, flag::LOADED)
+        & inputs::has_reset(rules::mode(c))
+        & inputs::rises(c.levels, new, 2)
 }
 
-// Whether the sample may count: CE is 1, and no hold is on.
-fn may_count(m: u8, flags: u32, new: u8) -> bool
-    ensures { λ r. ⌜ r ≡ counting m flags new ⌝ }
+// Whether the sample may count: settings are loaded, no reset, CE is 1, and no hold is on.
+pub fn may_count(c: Counter, new: u8) -> bool
+    ensures { λ r. ⌜ r ≡ mayCount new c ⌝ }
 {
-    bits::has(flags, flag::CE) & !(inputs::has_reset(m) & inputs::is_on(new, 3))
+    bits::has(c.flags, flag::LOADED)
+        & !resets(c, new)
+        & bits::has(c.flags, flag::CE)
+        & !(inputs::has_reset(rules::mode(c)) & inputs::is_on(new, 3))
+}
+
+// The count that the sample makes.
+pub fn count(c: Counter, new: u8) -> Count
+    ensures { λ r. ⌜ r ≡ count new c ⌝ }
+{
+    if may_count(c, new) {
+        inputs::direction(rules::mode(c), c.levels, new)
+    } else {
+        Count::None
+    }
 }
 
 fn reset(flags: u32) -> Sampled
@@ -85,20 +101,10 @@ fn reset(flags: u32) -> Sampled
 pub fn sampled(c: Counter, new: u8) -> Sampled
     ensures { λ r. ⌜ r ≡ sampled new c ⌝ }
 {
-    let a = c.active;
-    let m = rules::mode_of(a.mode);
-    if bits::has(c.flags, flag::LOADED) {
-        if resets(m, c.levels, new) {
-            reset(c.flags)
-        } else {
-            if may_count(m, c.flags, new) {
-                counted_by(inputs::direction(m, c.levels, new), c)
-            } else {
-                unmoved(c)
-            }
-        }
+    if resets(c, new) {
+        reset(c.flags)
     } else {
-        unmoved(c)
+        counted_by(count(c, new), c)
     }
 }
 

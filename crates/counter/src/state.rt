@@ -1,4 +1,6 @@
 // The counter's parts, and the counter as it starts.
+use super::desk;
+use super::desk::Desk;
 ghost use mathlib.Core.Path.{_≡_};
 ghost use Rattle.counter.specs.Parts.{fresh};
 
@@ -15,7 +17,6 @@ pub struct Settings {
     pub lpo: u16,
 }
 
-// The waiting causes stand at the front of `waiting`, `queued` of them, in order of arrival.
 pub struct Counter {
     pub staged: Settings,
     pub active: Settings,
@@ -24,9 +25,7 @@ pub struct Counter {
     pub er: u16,
     pub flags: u32,
     pub levels: u8,
-    pub running: u8,
-    pub waiting: [u8; 2],
-    pub queued: u8,
+    pub desk: Desk,
 }
 
 // What an input sample asks for.
@@ -75,6 +74,7 @@ pub fn fresh() -> Counter
         hpo: 0,
         lpo: 0,
     };
+    let desk = desk::empty();
     Counter {
         staged,
         active,
@@ -83,8 +83,6 @@ pub fn fresh() -> Counter
         er: 0,
         flags: 1920,
         levels: 0,
-        running: 0,
-        waiting: [0, 0],
-        queued: 0,
+        desk,
     }
 }

@@ -1,5 +1,6 @@
 // The step of each kind of event, and the step.
 use super::causes;
+use super::desk;
 use super::flag;
 use super::legality;
 use super::loading;
@@ -15,7 +16,7 @@ ghost use mathlib.Core.Bool.{true};
 ghost use Prim.Native.Nat.{_<_};
 ghost use Rattle.counter.specs.Parts.{withAcc, on, SP, FE};
 ghost use Rattle.counter.specs.Loading.{load};
-ghost use Rattle.counter.specs.Events.{legal, levelsOf, wordOf, shortOf, staged, stagedWrite, device, setTo, deviceWrite, spRises, flagWrite, emptied, autoStart, enterRun, outputWrite, control, apply, step, stepControl};
+ghost use Rattle.counter.specs.Events.{legal, levelsOf, wordOf, shortOf, staged, stagedWrite, device, setTo, deviceWrite, spRises, flagWrite, emptied, autoStart, enterRun, outputWrite, control, step, stepControl};
 
 // The levels that a sample's value gives.
 pub fn levels_of(v: i32) -> u8
@@ -146,7 +147,7 @@ fn load_by_sp(c: Counter) -> Counter
 fn sp_rises(c: Counter, sub: u8, v: i32) -> bool
     ensures { λ r. ⌜ r ≡ spRises sub v c ⌝ }
 {
-    (sub == 6) & !legality::is_zero(v) & !bits::has(c.flags, flag::SP)
+    (sub as u32 == flag::SP) & !legality::is_zero(v) & !bits::has(c.flags, flag::SP)
 }
 
 // Kind 4.
@@ -174,12 +175,10 @@ fn with_acc(c: Counter, v: i32) -> Counter
 fn emptied(c: Counter) -> Counter
     ensures { λ r. ⌜ r ≡ emptied c ⌝ }
 {
-    let none = [0u8; 2];
+    let none = desk::empty();
     let mut d = c;
     d.flags = causes::quiet(c.flags);
-    d.running = 0;
-    d.waiting = none;
-    d.queued = 0;
+    d.desk = none;
     d
 }
 
@@ -237,37 +236,14 @@ fn control(c: Counter, kind: u8, sub: u8, v: i32) -> Counter
         4 => flag_write(c, sub, v),
         5 => with_acc(c, v),
         6 => loading::preset_load(c),
-        7 => causes::finish(c),
+        7 => causes::routine_done(c),
         8 => enter_run(c),
         9 => output_write(c, v),
         _ => c,
     }
 }
 
-// The step of a legal event.
-fn apply(c: Counter, kind: u8, sub: u8, v: i32) -> Counter
-    requires { ⌜ legal kind sub v ≡ true ⌝ }
-    ensures { λ r. ⌜ r ≡ apply kind sub v c ⌝ }
-{
-    if kind == 1 {
-        sampling::sample(c, levels_of(v))
-    } else {
-        control(c, kind, sub, v)
-    }
-}
-
-// The counter after an event; one that is not legal changes nothing.
-pub fn step(c: Counter, kind: u8, sub: u8, v: i32) -> Counter
-    ensures { λ r. ⌜ r ≡ step kind sub v c ⌝ }
-{
-    if legality::legal(kind, sub, v) {
-        apply(c, kind, sub, v)
-    } else {
-        c
-    }
-}
-
-// The same after an event that is no legal sample.
+// The counter after an event that is no legal sample; one that is not legal changes nothing.
 pub fn step_control(c: Counter, kind: u8, sub: u8, v: i32) -> Counter
     ensures { λ r. ⌜ r ≡ stepControl kind sub v c ⌝ }
 {
@@ -275,5 +251,16 @@ pub fn step_control(c: Counter, kind: u8, sub: u8, v: i32) -> Counter
         control(c, kind, sub, v)
     } else {
         c
+    }
+}
+
+// The counter after an event; one that is not legal changes nothing.
+pub fn step(c: Counter, kind: u8, sub: u8, v: i32) -> Counter
+    ensures { λ r. ⌜ r ≡ step kind sub v c ⌝ }
+{
+    if legality::is_sample(kind, sub, v) {
+        sampling::sample(c, levels_of(v))
+    } else {
+        step_control(c, kind, sub, v)
     }
 }

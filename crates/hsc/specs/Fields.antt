@@ -1,13 +1,12 @@
 -- Document 01, "Reading returns the state and the bits shown but not stored": the 32 numbers of a reading, in their order.
 use mathlib.Core.Bool.{Bool, cond}
 use mathlib.Core.List.{List, [], _∷_, _++_}
-use Prim.Native.Nat.{ℕ, _+_}
 use lib.IntN.{ℤ, pos}
-use lib.ListN.{length, getD, take, drop}
 use mir.Syntax.{w32}
 use Rattle.word.specs.TwosComplement.{signed}
 use Rattle.counter.specs.declared.state.Settings.{Settings}
 use Rattle.counter.specs.declared.state.Counter.{Counter}
+use Rattle.counter.specs.Desk.{first, second}
 use Rattle.counter.specs.Shown.{uix, uip, cu, cd, hpr, lpr}
 
 -- PFN, MOD, HIP, LOP, OVF, UNF, OMB, HPO, LPO
@@ -23,9 +22,9 @@ storedFields c =
     ∷ pos (c .er)
     ∷ signed w32 (c .flags)
     ∷ pos (c .levels)
-    ∷ pos (c .running)
-    ∷ pos (getD (c .waiting) 0 0)
-    ∷ pos (getD (c .waiting) 1 0)
+    ∷ pos (c .desk .running)
+    ∷ pos (first (c .desk))
+    ∷ pos (second (c .desk))
     ∷ []
 
 abbrev pub bitField : Bool → ℤ
@@ -41,7 +40,3 @@ unfoldable pub fieldsOf : Counter → List ℤ
 fieldsOf c = settingsFields (c .staged) ++ settingsFields (c .active) ++ storedFields c ++ shownFields c
 
 -- ---- filling
-
--- numbers with a row over those from place at
-unfoldable pub over : List ℤ → ℕ → List ℤ → List ℤ
-over fields at row = take at fields ++ row ++ drop (at + length row) fields

@@ -7,7 +7,8 @@ ghost use mathlib.Core.Path.{_≡_};
 ghost use Prim.Native.Nat.{_+_, _≤_};
 ghost use lib.IntN.{pos};
 ghost use lib.ListN.{length};
-ghost use Rattle.hsc.specs.Fields.{over, settingsFields, storedFields, shownFields, fieldsOf};
+ghost use Rattle.word.specs.Part.{put};
+ghost use Rattle.hsc.specs.Fields.{settingsFields, storedFields, shownFields, fieldsOf};
 
 // In the layout's order.
 fn settings_row(s: Settings) -> [i32; 9]
@@ -37,14 +38,15 @@ fn wide(b: u8) -> i32
 fn stored_row(c: Counter) -> [i32; 8]
     ensures { λ r. ⌜ r ≡ storedFields c ⌝ }
 {
-    let waiting = c.waiting;
+    let desk = c.desk;
+    let waiting = desk.waiting;
     [
         c.acc,
         c.out as i32,
         c.er as i32,
         sign::i32_of(c.flags),
         wide(c.levels),
-        wide(c.running),
+        wide(desk.running),
         wide(waiting[0]),
         wide(waiting[1]),
     ]
@@ -67,7 +69,7 @@ fn shown_row(c: Counter) -> [i32; 6]
 // The row over the numbers from place at.
 fn copy_row(fields: &mut [i32], at: usize, row: &[i32])
     requires { ⌜ at + length (now row) ≤ length (now fields) ⌝ }
-    ensures { λ _. ⌜ now (fields .exit) ≡ over (now (fields .entry)) at (now (row .entry)) ⌝ }
+    ensures { λ _. ⌜ now (fields .exit) ≡ put (now (fields .entry)) at (now (row .entry)) ⌝ }
 {
     let mut i = 0;
     while i < row.len() {

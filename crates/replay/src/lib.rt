@@ -1,2 +1,1 @@
-// Functions on bytes that serve every machine.
-pub mod bytes;
+// No code: the theory of a table of snapshots over a row of events, for any machine.

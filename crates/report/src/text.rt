@@ -1,5 +1,5 @@
 // Text in a lent buffer, appended piece by piece. A place is how much text stands at the buffer's front.
-use replay::bytes;
+use word::parts;
 use word::sign;
 ghost use Prim.Native.Nat.{_+_, _≤_, _<_, _^_};
 ghost use lib.ListN.{length};
@@ -11,7 +11,7 @@ pub fn append(s: &mut [u8], at: usize, piece: &[u8]) -> usize
     requires { ⌜ at + length (now piece) ≤ length (now s) ⌝ }
     ensures { λ r. ⌜ Appended (now (s .entry)) at (now (piece .entry)) (now (s .exit)) r ⌝ }
 {
-    bytes::copy_over(s, at, piece);
+    parts::copy_over(s, at, piece);
     at + piece.len()
 }
 

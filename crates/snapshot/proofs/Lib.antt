@@ -1,9 +1,6 @@
 -- The laws of the definitions in `specs/`, for callers to cite.
-pub mod Rows
-pub mod Writes
-pub mod InPlace
+pub mod Moving
 pub mod Offsets
-pub mod Causes
 pub mod Rules
 pub mod RoundTrip
 pub mod Sampled

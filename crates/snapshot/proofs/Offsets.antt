@@ -1,4 +1,4 @@
--- Document 01's places are those that the layouts give: a layout's numbers stand one after the other, so its places are sums of widths.
+-- Document 01's byte offsets are those of the layouts: a layout's numbers follow one another, so that each offset is a sum of widths.
 use mathlib.Core.Path.{_≡_, refl, ap, _∙_}
 use mathlib.Core.List.{List, [], _∷_}
 use Prim.Native.Nat.{ℕ, _+_}
@@ -10,16 +10,17 @@ use Rattle.word.specs.Part.{part}
 use Rattle.word.specs.LittleEndian.{numberAt}
 use Rattle.word.specs.TwosComplement.{signed}
 use Rattle.word.specs.Layouts.{total}
-use Rattle.snapshot.specs.Widths.{snapshotSize, eventSize, settingsLayout, otherLayout, snapshotLayout, eventLayout, spans}
+use Rattle.word.proofs.Layouts.{numbersAt, unpack-from, unpack-here, numbers-part}
+use Rattle.snapshot.specs.Widths.{snapshotSize, movingSize, eventSize, settingsLayout, otherLayout, snapshotLayout, movingLayout, eventLayout, spans}
 use Rattle.snapshot.specs.Snapshots.{stateOf, stateAt, decode}
 use Rattle.snapshot.specs.declared.event.Event.{Event}
 use Rattle.snapshot.specs.EventBytes.{eventOf, reservedZero}
-use Rattle.snapshot.proofs.Rows.{numbersAt, unpack-from, unpack-here, numbers-part}
 
 -- 0-25 staged; 26-51 active; 52-55 ACC; 56-57 outputs; 58-59 ER; 60-63 flags; 64 levels; 65 running; 66, 67 waiting.
 -- Kind at byte 0, sub at 1, zero at 2-3, value at 4-7, stamp at 8-11.
 pub record Places : Type 0 where
   pub snapshot-size : total snapshotLayout ≡ snapshotSize
+  pub moving-size : total movingLayout ≡ movingSize
   pub event-size : total eventLayout ≡ eventSize
   pub settings-at : spans settingsLayout 0 ≡ (0, 1) ∷ (2, 3) ∷ (4, 7) ∷ (8, 11) ∷ (12, 15) ∷ (16, 19) ∷ (20, 21) ∷ (22, 23) ∷ (24, 25) ∷ []
   pub snapshot-at : spans (total settingsLayout ∷ total settingsLayout ∷ otherLayout) 0
@@ -28,9 +29,9 @@ pub record Places : Type 0 where
 
 pub places : Places
 unfolding total spans
-places = record { snapshot-size = refl; event-size = refl; settings-at = refl; snapshot-at = refl; event-at = refl }
+places = record { snapshot-size = refl; moving-size = refl; event-size = refl; settings-at = refl; snapshot-at = refl; event-at = refl }
 
--- the state that a row of the layout's numbers gives is the one at document 01's places
+-- the state of the layout's numbers is the one at document 01's byte offsets
 row-at : (s : List ℕ) (at : ℕ) → stateOf (numbersAt snapshotLayout s at 0) ≡ stateAt s at
 row-at s at = simp (add-zero, add-assoc)
 

@@ -3,26 +3,26 @@
 use mathlib.Core.Path.{_≡_, refl, sym, ap, _∙_}
 use mathlib.Core.Bool.{true}
 use mathlib.Core.List.{List, [], _∷_, _++_}
-use Prim.Native.Nat.{ℕ, _+_, _^_, _<_, _≤_}
+use Prim.Native.Nat.{ℕ, _^_, _<_}
 use native.Mathlib.Omega.{arith}
-use lib.ListN.{length, getD, drop}
+use lib.ListN.{length, getD}
 use mir.Syntax.{w16, w32}
-use mir.Val.{Fits}
 use Rattle.word.specs.Part.{Bytes}
-use Rattle.word.specs.LittleEndian.{numberAt}
-use Rattle.word.specs.Layouts.{total, pack, Held, none, more}
-use Rattle.word.proofs.LittleEndian.{numberAt-lt}
+use Rattle.word.specs.TwosComplement.{signed, unsigned}
+use Rattle.word.specs.Layouts.{total, pack, unpack, Held, none, more}
 use Rattle.word.proofs.TwosComplement.{signed-unsigned, unsigned-signed, sfits-signed, fits-unsigned}
-use Rattle.word.proofs.Layouts.{length-pack, unpack-pack, pack-unpack}
+use Rattle.word.proofs.Layouts.{length-pack, unpack-pack, pack-unpack, held-unpack, bytes-pack, held-append}
+use Rattle.word.proofs.Replaced.{held-at, held-drop}
 use Rattle.counter.specs.declared.state.Settings.{Settings}
 use Rattle.counter.specs.declared.state.Counter.{Counter}
+use Rattle.counter.specs.Desk.{first, second}
 use Rattle.counter.specs.WellFormed.{wellFormed, SettingsTyped, Typed, Good}
-use Rattle.snapshot.specs.Widths.{snapshotSize, settingsSize, settingsLayout, otherLayout, snapshotLayout}
-use Rattle.snapshot.specs.Snapshots.{settingsRow, otherRow, rowOf, encode, settingsOf, stateOf, decode, settingsAt, stateAt}
+use Rattle.counter.proofs.Formed.{Formed, formed-parts}
+use Rattle.snapshot.specs.Widths.{snapshotSize, settingsLayout, otherLayout, snapshotLayout}
+use Rattle.snapshot.specs.Places.{activeIndex, accIndex}
+use Rattle.snapshot.specs.Snapshots.{settingsRow, otherRow, rowOf, encode, settingsOf, stateOf, decode}
 use Rattle.snapshot.specs.FormedBytes.{formed}
-use Rattle.snapshot.proofs.Rows.{numbersAt, unpack-from, bytes-pack, held-append}
-use Rattle.snapshot.proofs.Offsets.{decode-places}
-use Rattle.snapshot.proofs.Rules.{Bounded, bounded, formed-decode}
+use Rattle.snapshot.proofs.Rules.{formed-decode}
 
 -- ---- the encoding of any state
 
@@ -45,20 +45,28 @@ held-settings t =
     (more (fits-unsigned (t .ovf) .fits)
     (more (fits-unsigned (t .unf) .fits) (more (t .omb) (more (t .hpo) (more (t .lpo) none))))))))
 
-held-other : {c : Counter} → Typed c → Bounded c → Held otherLayout (otherRow c)
-held-other {c} t b =
+held-other : {c : Counter} → Typed c → Formed c → Held otherLayout (otherRow c)
+held-other {c} t f =
+    let causes = f .causes in
     let out : c .out < 256 ^ 2 = omega arith in
     let er : c .er < 256 ^ 2 = omega arith in
     let flags : c .flags < 256 ^ 4 = omega arith in
     let levels : c .levels < 256 ^ 1 = omega arith in
-    let running : c .running < 256 ^ 1 = omega arith in
-    let first : getD (c .waiting) 0 0 < 256 ^ 1 = omega arith in
-    let second : getD (c .waiting) 1 0 < 256 ^ 1 = omega arith in
-    more (fits-unsigned (t .acc) .fits) (more out (more er (more flags (more levels (more running (more first (more second none)))))))
+    let running : c .desk .running < 256 ^ 1 = omega arith in
+    let one : first (c .desk) < 256 ^ 1 = omega arith in
+    let two : second (c .desk) < 256 ^ 1 = omega arith in
+    more (fits-unsigned (t .acc) .fits) (more out (more er (more flags (more levels (more running (more one (more two none)))))))
 
 settings-back : (s : Settings) (rest : List ℕ) → SettingsTyped s → settingsOf (settingsRow s ++ rest) ≡ s
 settings-back s rest t =
-    simp (signed-unsigned (t .pfn), signed-unsigned (t .mode), signed-unsigned (t .hip), signed-unsigned (t .lop), signed-unsigned (t .ovf), signed-unsigned (t .unf))
+    simp (
+      signed-unsigned (t .pfn),
+      signed-unsigned (t .mode),
+      signed-unsigned (t .hip),
+      signed-unsigned (t .lop),
+      signed-unsigned (t .ovf),
+      signed-unsigned (t .unf),
+    )
 
 two : (l : List ℕ) → length l ≡ 2 → getD l 0 0 ∷ getD l 1 0 ∷ [] ≡ l
 two [] h = absurd (omega arith)
@@ -66,76 +74,80 @@ two (x ∷ []) h = absurd (omega arith)
 two (x ∷ y ∷ []) h = refl
 two (x ∷ y ∷ z ∷ zs) h = absurd (omega arith)
 
-row-back : (c : Counter) → Typed c → Bounded c → stateOf (rowOf c) ≡ c
-row-back c t b =
-    rw (settings-back (c .staged) (settingsRow (c .active) ++ otherRow c) (t .staged), settings-back (c .active) (otherRow c) (t .active), signed-unsigned (t .acc), b .queue .counted, two (c .waiting) (t .waiting))
+row-back : (c : Counter) → Typed c → Formed c → stateOf (rowOf c) ≡ c
+row-back c t f =
+    rw (
+      settings-back (c .staged) (settingsRow (c .active) ++ otherRow c) (t .staged),
+      settings-back (c .active) (otherRow c) (t .active),
+      signed-unsigned (t .acc),
+      ← f .causes .queue .counted,
+      two (c .desk .waiting) (t .waiting),
+    )
+
+held-row : (c : Counter) → Good c → Held snapshotLayout (rowOf c)
+held-row c g =
+    held-append (held-settings (g .typed .staged)) (held-append (held-settings (g .typed .active)) (held-other (g .typed) (formed-parts c (g .formed))))
+
+pub unpack-encode : (c : Counter) → Good c → unpack snapshotLayout (encode c) ≡ rowOf c
+unfolding encode
+unpack-encode c g = unpack-pack (held-row c g)
 
 pub decode-encode : (c : Counter) → Good c → decode (encode c) ≡ c
-unfolding encode decode
-decode-encode c g =
-    let b = bounded c (g .formed) in
-    ap stateOf (unpack-pack (held-append (held-settings (g .typed .staged)) (held-append (held-settings (g .typed .active)) (held-other (g .typed) b))))
-    ∙ row-back c (g .typed) b
+unfolding decode
+decode-encode c g = ap stateOf (unpack-encode c g) ∙ row-back c (g .typed) (formed-parts c (g .formed))
 
--- ---- what the numbers at their places fit
+-- ---- a row whose widths hold its numbers
 
-module _ (b : List ℕ) (h : Bytes b) where
-  short : (at : ℕ) → at + 2 ≤ length b → Fits w16 (numberAt b at 2)
-  short at e = record { fits = numberAt-lt b at 2 h e }
+back16 : {n : ℕ} → n < 256 ^ 2 → unsigned w16 (signed w16 n) ≡ n
+back16 h = unsigned-signed {w = w16} (record { fits = h })
 
-  long : (at : ℕ) → at + 4 ≤ length b → Fits w32 (numberAt b at 4)
-  long at e = record { fits = numberAt-lt b at 4 h e }
+back32 : {n : ℕ} → n < 256 ^ 4 → unsigned w32 (signed w32 n) ≡ n
+back32 h = unsigned-signed {w = w32} (record { fits = h })
 
-  settings-typed : (at : ℕ) → at + settingsSize ≤ length b → SettingsTyped (settingsAt b at)
-  settings-typed at e =
-      record {
-        pfn = sfits-signed (short at (omega arith));
-        mode = sfits-signed (short (at + 2) (omega arith));
-        hip = sfits-signed (long (at + 4) (omega arith));
-        lop = sfits-signed (long (at + 8) (omega arith));
-        ovf = sfits-signed (long (at + 12) (omega arith));
-        unf = sfits-signed (long (at + 16) (omega arith));
-        omb = short (at + 20) (omega arith) .fits;
-        hpo = short (at + 22) (omega arith) .fits;
-        lpo = short (at + 24) (omega arith) .fits;
-      }
+-- is the row of the state that it gives
+pub row-state : {r : List ℕ} → Held snapshotLayout r → rowOf (stateOf r) ≡ r
+row-state (more a (more b (more c (more d (more e (more f (more g (more h (more i (more j (more k (more l (more m (more n (more o (more p (more q (more r
+    (more s (more t (more u (more v (more w (more x (more y (more z none)))))))))))))))))))))))))) =
+    simp (back16 a, back16 b, back32 c, back32 d, back32 e, back32 f, back16 j, back16 k, back32 l, back32 m, back32 n, back32 o, back32 s)
 
-  settings-row : (at : ℕ) → at + settingsSize ≤ length b
-      → settingsRow (settingsAt b at)
-      ≡ numberAt b at 2 ∷ numbersAt (drop 1 settingsLayout) b at 2
-  settings-row at e =
-      λ i. unsigned-signed (short at (omega arith)) i
-      ∷ unsigned-signed (short (at + 2) (omega arith)) i
-      ∷ unsigned-signed (long (at + 4) (omega arith)) i
-      ∷ unsigned-signed (long (at + 8) (omega arith)) i
-      ∷ unsigned-signed (long (at + 12) (omega arith)) i
-      ∷ unsigned-signed (long (at + 16) (omega arith)) i
-      ∷ numbersAt (drop 6 settingsLayout) b at 20
+settings-typed : {ks r : List ℕ} → Held (settingsLayout ++ ks) r → SettingsTyped (settingsOf r)
+settings-typed h =
+    record {
+      pfn = sfits-signed (record { fits = held-at h 0 });
+      mode = sfits-signed (record { fits = held-at h 1 });
+      hip = sfits-signed (record { fits = held-at h 2 });
+      lop = sfits-signed (record { fits = held-at h 3 });
+      ovf = sfits-signed (record { fits = held-at h 4 });
+      unf = sfits-signed (record { fits = held-at h 5 });
+      omb = held-at h 6;
+      hpo = held-at h 7;
+      lpo = held-at h 8;
+    }
 
-  row-places : length b ≡ snapshotSize → rowOf (stateAt b 0) ≡ numbersAt snapshotLayout b 0 0
-  row-places e =
-      λ i. settings-row 0 (omega arith) i
-      ++ (settings-row 26 (omega arith) i
-      ++ (unsigned-signed (long 52 (omega arith)) i ∷ numbersAt (drop 1 otherLayout) b 0 56))
+state-typed : {r : List ℕ} → Held snapshotLayout r → Typed (stateOf r)
+state-typed h =
+    record {
+      staged = settings-typed h;
+      active = settings-typed (held-drop h activeIndex);
+      acc = sfits-signed (record { fits = held-at h accIndex });
+      waiting = refl;
+    }
 
 -- ---- bytes are written back from the state that they hold
 
+held-bytes : (b : List ℕ) → Bytes b → length b ≡ snapshotSize → Held snapshotLayout (unpack snapshotLayout b)
+unfolding total
+held-bytes = held-unpack snapshotLayout
+
 pub encode-decode : (b : List ℕ) → Bytes b → length b ≡ snapshotSize → encode (decode b) ≡ b
-unfolding encode total
-encode-decode b h e =
-    ap encode (decode-places b) ∙ ap (pack snapshotLayout) (row-places b h e ∙ sym (unpack-from snapshotLayout b 0 0)) ∙ pack-unpack snapshotLayout b h e
+unfolding encode decode total
+encode-decode b h e = ap (pack snapshotLayout) (row-state (held-bytes b h e)) ∙ pack-unpack snapshotLayout b h e
 
 -- ---- good states and well-formed bytes
 
 pub typed-decode : (b : List ℕ) → Bytes b → length b ≡ snapshotSize → Typed (decode b)
-typed-decode b h e =
-    rw decode-places
-    (record {
-      staged = settings-typed b h 0 (omega arith);
-      active = settings-typed b h 26 (omega arith);
-      acc = sfits-signed (long b h 52 (omega arith));
-      waiting = refl;
-    })
+unfolding decode
+typed-decode b h e = state-typed (held-bytes b h e)
 
 pub good-decode : (b : List ℕ) → Bytes b → length b ≡ snapshotSize → formed b ≡ true → Good (decode b)
 good-decode b h e f = record { formed = sym (formed-decode b) ∙ f; typed = typed-decode b h e }

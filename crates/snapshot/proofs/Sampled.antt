@@ -1,4 +1,4 @@
--- A sample over a snapshot's bytes: what the test of the event that was read says of the event's bytes, and where no cause is raised.
+-- A sample over a state in its bytes: the test of the event that was read, and what is stored, with a cause raised or without.
 use mathlib.Core.Path.{_≡_, sym, ap, _∙_}
 use mathlib.Core.Bool.{Bool}
 use Prim.Native.Nat.{ℕ}
@@ -15,10 +15,11 @@ use Rattle.counter.specs.Events.{isSample}
 use Rattle.counter.proofs.Raising.{raise-none}
 use Rattle.snapshot.specs.declared.event.Event.{Event}
 
-pub sample-told : {r b : Bool} {x e : Event} → SFits w32 (x .value) → x ≡ e
+-- the test of an event as it was read is that of the event in its bytes
+pub sample-read : {r b : Bool} {x e : Event} → SFits w32 (x .value) → x ≡ e
     → r ≡ isSample (x .kind) (x .sub) (signed w32 (unsigned w32 (x .value))) → r ≡ b → isSample (e .kind) (e .sub) (e .value) ≡ b
-sample-told {x = x} fits same told t =
-    sym (told ∙ ap (isSample (x .kind) (x .sub)) (signed-unsigned fits) ∙ ap (λ (e : Event). isSample (e .kind) (e .sub) (e .value)) same) ∙ t
+sample-read {x = x} fits same answer t =
+    sym (answer ∙ ap (isSample (x .kind) (x .sub)) (signed-unsigned fits) ∙ ap (λ (e : Event). isSample (e .kind) (e .sub) (e .value)) same) ∙ t
 
 -- ACC, the flags and the levels of what a sample makes of a state
 abbrev pub stored : Sampled → ℕ → Counter → Counter

@@ -6,9 +6,9 @@ use lib.Dec.{eqb}
 use lib.ListN.{take, getD}
 use Rattle.word.specs.Part.{part}
 use Rattle.word.specs.Layouts.{total, unpack}
+use Rattle.word.proofs.Layouts.{numbersAt, unpack-here}
 use Rattle.counter.specs.declared.state.Counter.{Counter}
 use Rattle.snapshot.specs.EventBytes.{eventOf, reservedZero, legalEvent, stepEvent}
-use Rattle.snapshot.proofs.Rows.{numbersAt, unpack-here}
 use Rattle.snapshot.proofs.Offsets.{eventRow}
 
 -- kind, sub, zero and value

@@ -1,40 +1,17 @@
 -- Document 01, "Snapshot, 68 bytes": well formed, on the numbers at their places in the bytes.
-use mathlib.Core.Bool.{Bool, cond, not, _&&_, _||_, Bool·beq}
+use mathlib.Core.Bool.{Bool}
 use mathlib.Core.List.{List}
-use Prim.Native.Nat.{ℕ, _^_}
-use lib.Dec.{eqb, leb, ltb}
+use Prim.Native.Nat.{ℕ, _+_}
 use Rattle.word.specs.LittleEndian.{numberAt}
-use Rattle.word.specs.Masks.{bit}
-use Rattle.counter.specs.declared.state.Settings.{Settings}
-use Rattle.counter.specs.Parts.{ED, LOADED}
-use Rattle.counter.specs.Loading.{firstBroken}
-use Rattle.counter.specs.WellFormed.{isNone}
+use Rattle.counter.specs.WellFormed.{partsFormed}
+use Rattle.snapshot.specs.Places.{activeAt, outAt, erAt, flagsAt, levelsAt, runningAt, firstAt, secondAt}
 use Rattle.snapshot.specs.Snapshots.{settingsAt}
 
--- causes <= 4, second waiting only with a first, first only with one running
-abbrev pub causesStand : ℕ → ℕ → ℕ → Bool
-causesStand running first second =
-    leb running 4
-    && leb first 4
-    && leb second 4
-    && (eqb second 0 || not (eqb first 0))
-    && (eqb first 0 || not (eqb running 0))
+-- whether the snapshot from byte at is well formed
+abbrev pub formedAt : List ℕ → ℕ → Bool
+formedAt s at =
+    partsFormed (settingsAt s (at + activeAt)) (numberAt s (at + outAt) 2) (numberAt s (at + erAt) 2) (numberAt s (at + flagsAt) 4)
+    (numberAt s (at + levelsAt) 1) (numberAt s (at + runningAt) 1) (numberAt s (at + firstAt) 1) (numberAt s (at + secondAt) 1)
 
--- ER <= 5, ED = 1 exactly if ER is not 0
-abbrev pub errorStands : ℕ → ℕ → Bool
-errorStands er flags = leb er 5 && Bool·beq (bit flags ED) (not (eqb er 0))
-
--- active passes rules 1-5 if loaded and is all 0 if not
-abbrev pub activeStands : ℕ → Settings → Bool
-activeStands flags s = cond (bit flags LOADED) (eqb (firstBroken s) 0) (isNone s)
-
--- Flag bits 20-31 zero, output bits 12-15 zero, levels <= 15; then the causes, ER, and the active settings.
--- Active at 26-51, outputs at 56-57, ER at 58-59, flags at 60-63, levels at 64, running at 65, waiting at 66 and 67.
 unfoldable pub formed : List ℕ → Bool
-formed b =
-    ltb (numberAt b 60 4) (2 ^ 20)
-    && ltb (numberAt b 56 2) (2 ^ 12)
-    && leb (numberAt b 64 1) 15
-    && causesStand (numberAt b 65 1) (numberAt b 66 1) (numberAt b 67 1)
-    && errorStands (numberAt b 58 2) (numberAt b 60 4)
-    && activeStands (numberAt b 60 4) (settingsAt b 26)
+formed b = formedAt b 0

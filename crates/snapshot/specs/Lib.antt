@@ -1,4 +1,5 @@
 -- Document 01's bytes: the snapshot of a state, and an event.
+pub mod Places
 pub mod Widths
 pub mod Snapshots
 pub mod FormedBytes

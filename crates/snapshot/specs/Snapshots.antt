@@ -1,8 +1,6 @@
--- Document 01, "Snapshot, 68 bytes": a state as a row of numbers, the row's bytes, and back. A signed number stands by its bits.
-use mathlib.Core.Bool.{cond}
+-- Document 01, "Snapshot, 68 bytes": a state as a row of numbers, the row's bytes, and back. A signed number is in the row by its bits.
 use mathlib.Core.List.{List, [], _∷_, _++_}
 use Prim.Native.Nat.{ℕ, _+_}
-use lib.Dec.{eqb}
 use lib.ListN.{getD, drop}
 use mir.Syntax.{w16, w32}
 use Rattle.word.specs.LittleEndian.{numberAt}
@@ -10,7 +8,12 @@ use Rattle.word.specs.TwosComplement.{signed, unsigned}
 use Rattle.word.specs.Layouts.{pack, unpack}
 use Rattle.counter.specs.declared.state.Settings.{Settings}
 use Rattle.counter.specs.declared.state.Counter.{Counter}
+use Rattle.counter.specs.declared.desk.Desk.{Desk}
+use Rattle.counter.specs.Desk.{deskOf, first, second, queuedOf}
 use Rattle.snapshot.specs.Widths.{snapshotLayout}
+use Rattle.snapshot.specs.Places.{modeAt, hipAt, lopAt, ovfAt, unfAt, ombAt, hpoAt, lpoAt}
+use Rattle.snapshot.specs.Places.{activeAt, accAt, outAt, erAt, flagsAt, levelsAt, runningAt, firstAt, secondAt}
+use Rattle.snapshot.specs.Places.{activeIndex, accIndex, outIndex, erIndex, flagsIndex, levelsIndex, runningIndex, firstIndex, secondIndex}
 
 -- ---- from a state to bytes
 
@@ -34,9 +37,9 @@ otherRow c =
     ∷ c .er
     ∷ c .flags
     ∷ c .levels
-    ∷ c .running
-    ∷ getD (c .waiting) 0 0
-    ∷ getD (c .waiting) 1 0
+    ∷ c .desk .running
+    ∷ first (c .desk)
+    ∷ second (c .desk)
     ∷ []
 
 abbrev pub rowOf : Counter → List ℕ
@@ -62,55 +65,54 @@ settingsOf r =
       lpo = getD r 8 0;
     }
 
--- how many wait, by the two waiting causes: 0 is none
-unfoldable pub queuedOf : ℕ → ℕ → ℕ
-queuedOf first second = cond (eqb first 0) 0 (cond (eqb second 0) 1 2)
+-- the desk by the running cause and the two waiting ones, 0 for none
+abbrev pub deskBy : ℕ → ℕ → ℕ → Desk
+deskBy running first second = deskOf running (first ∷ second ∷ []) (queuedOf first second)
 
 abbrev pub stateOf : List ℕ → Counter
 stateOf r =
     record {
       staged = settingsOf r;
-      active = settingsOf (drop 9 r);
-      acc = signed w32 (getD r 18 0);
-      out = getD r 19 0;
-      er = getD r 20 0;
-      flags = getD r 21 0;
-      levels = getD r 22 0;
-      running = getD r 23 0;
-      waiting = getD r 24 0 ∷ getD r 25 0 ∷ [];
-      queued = queuedOf (getD r 24 0) (getD r 25 0);
+      active = settingsOf (drop activeIndex r);
+      acc = signed w32 (getD r accIndex 0);
+      out = getD r outIndex 0;
+      er = getD r erIndex 0;
+      flags = getD r flagsIndex 0;
+      levels = getD r levelsIndex 0;
+      desk = deskBy (getD r runningIndex 0) (getD r firstIndex 0) (getD r secondIndex 0);
     }
 
 unfoldable pub decode : List ℕ → Counter
 decode b = stateOf (unpack snapshotLayout b)
 
--- ---- the same by document 01's places: what stands in a list of bytes from place at
+-- ---- the same by document 01's byte offsets, in a list of bytes from byte at
 
 abbrev pub settingsAt : List ℕ → ℕ → Settings
 settingsAt s at =
     record {
       pfn = signed w16 (numberAt s at 2);
-      mode = signed w16 (numberAt s (at + 2) 2);
-      hip = signed w32 (numberAt s (at + 4) 4);
-      lop = signed w32 (numberAt s (at + 8) 4);
-      ovf = signed w32 (numberAt s (at + 12) 4);
-      unf = signed w32 (numberAt s (at + 16) 4);
-      omb = numberAt s (at + 20) 2;
-      hpo = numberAt s (at + 22) 2;
-      lpo = numberAt s (at + 24) 2;
+      mode = signed w16 (numberAt s (at + modeAt) 2);
+      hip = signed w32 (numberAt s (at + hipAt) 4);
+      lop = signed w32 (numberAt s (at + lopAt) 4);
+      ovf = signed w32 (numberAt s (at + ovfAt) 4);
+      unf = signed w32 (numberAt s (at + unfAt) 4);
+      omb = numberAt s (at + ombAt) 2;
+      hpo = numberAt s (at + hpoAt) 2;
+      lpo = numberAt s (at + lpoAt) 2;
     }
+
+abbrev pub deskAt : List ℕ → ℕ → Desk
+deskAt s at = deskBy (numberAt s (at + runningAt) 1) (numberAt s (at + firstAt) 1) (numberAt s (at + secondAt) 1)
 
 abbrev pub stateAt : List ℕ → ℕ → Counter
 stateAt s at =
     record {
       staged = settingsAt s at;
-      active = settingsAt s (at + 26);
-      acc = signed w32 (numberAt s (at + 52) 4);
-      out = numberAt s (at + 56) 2;
-      er = numberAt s (at + 58) 2;
-      flags = numberAt s (at + 60) 4;
-      levels = numberAt s (at + 64) 1;
-      running = numberAt s (at + 65) 1;
-      waiting = numberAt s (at + 66) 1 ∷ numberAt s (at + 67) 1 ∷ [];
-      queued = queuedOf (numberAt s (at + 66) 1) (numberAt s (at + 67) 1);
+      active = settingsAt s (at + activeAt);
+      acc = signed w32 (numberAt s (at + accAt) 4);
+      out = numberAt s (at + outAt) 2;
+      er = numberAt s (at + erAt) 2;
+      flags = numberAt s (at + flagsAt) 4;
+      levels = numberAt s (at + levelsAt) 1;
+      desk = deskAt s at;
     }

@@ -1,6 +1,9 @@
 // A state in the 68 bytes of its snapshot.
+use crate::places;
 use crate::settings::read_settings;
 use crate::settings::write_settings;
+use counter::desk::Desk;
+use counter::desk::queued_of;
 use counter::state::Counter;
 use word::bytes;
 ghost use mathlib.Core.Path.{_≡_};
@@ -12,41 +15,39 @@ ghost use Rattle.word.specs.Part.{part, put};
 ghost use Rattle.word.specs.TwosComplement.{unsigned};
 ghost use Rattle.word.specs.Layouts.{pack};
 ghost use Rattle.snapshot.specs.Widths.{snapshotSize};
-ghost use Rattle.snapshot.specs.Snapshots.{queuedOf, encode, decode};
+ghost use Rattle.snapshot.specs.Snapshots.{deskAt, encode, decode};
 
-// How many causes wait, by the two waiting bytes.
-fn queued(first: u8, second: u8) -> u8
-    ensures { λ r. ⌜ r ≡ queuedOf first second ⌝ }
+// The desk in the snapshot from byte at.
+fn read_desk(s: &[u8], at: usize) -> Desk
+    requires { ⌜ at + snapshotSize ≤ length (now s) ⌝ }
+    ensures { λ r. ⌜ r ≡ deskAt (now (s .entry)) at ⌝ }
 {
-    if first == 0 {
-        0
-    } else if second == 0 {
-        1
-    } else {
-        2
+    let running = s[at + places::RUNNING];
+    let first = s[at + places::FIRST];
+    let second = s[at + places::SECOND];
+    Desk {
+        running,
+        waiting: [first, second],
+        queued: queued_of(first, second),
     }
 }
 
-// The state in the snapshot from place at.
+// The state in the snapshot from byte at.
 pub fn decode(s: &[u8], at: usize) -> Counter
     requires { ⌜ at + snapshotSize ≤ length (now s) ⌝ }
     ensures { λ r. ⌜ r ≡ decode (part (now (s .entry)) at snapshotSize) ⌝ }
 {
-    let levels = s[at + 64];
-    let running = s[at + 65];
-    let first = s[at + 66];
-    let second = s[at + 67];
+    let levels = s[at + places::LEVELS];
+    let desk = read_desk(s, at);
     Counter {
         staged: read_settings(s, at),
-        active: read_settings(s, at + 26),
-        acc: bytes::read_i32(s, at + 52),
-        out: bytes::read_u16(s, at + 56),
-        er: bytes::read_u16(s, at + 58),
-        flags: bytes::read_u32(s, at + 60),
+        active: read_settings(s, at + places::ACTIVE),
+        acc: bytes::read_i32(s, at + places::ACC),
+        out: bytes::read_u16(s, at + places::OUTPUTS),
+        er: bytes::read_u16(s, at + places::ER),
+        flags: bytes::read_u32(s, at + places::FLAGS),
         levels,
-        running,
-        waiting: [first, second],
-        queued: queued(first, second),
+        desk,
     }
 }
 
@@ -72,17 +73,18 @@ fn write_causes(s: &mut [u8], at: usize, levels: u8, running: u8, first: u8, sec
     s[at + 3] = second;
 }
 
-// Writes the state's snapshot from place at.
+// Writes the state's snapshot from byte at.
 pub fn encode(c: Counter, s: &mut [u8], at: usize)
     requires { ⌜ at + snapshotSize ≤ length (now s) ⌝ }
     ensures { λ _. ⌜ now (s .exit) ≡ put (now (s .entry)) at (encode c) ⌝ }
 {
-    let waiting = c.waiting;
-    let active = at + 26;
-    let words = at + 52;
-    let causes = at + 64;
+    let desk = c.desk;
+    let waiting = desk.waiting;
+    let active = at + places::ACTIVE;
+    let words = at + places::ACC;
+    let causes = at + places::LEVELS;
     write_settings(c.staged, s, at);
     write_settings(c.active, s, active);
     write_words(s, words, c.acc, c.out, c.er, c.flags);
-    write_causes(s, causes, c.levels, c.running, waiting[0], waiting[1]);
+    write_causes(s, causes, c.levels, desk.running, waiting[0], waiting[1]);
 }

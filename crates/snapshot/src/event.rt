@@ -1,4 +1,5 @@
 // An event in its 12 bytes.
+use crate::places;
 use counter::legality;
 use word::bytes;
 ghost use mathlib.Core.Path.{_≡_};
@@ -15,27 +16,27 @@ pub struct Event {
     pub value: i32,
 }
 
-// The event from place at.
+// The event from byte at.
 pub fn read_event(s: &[u8], at: usize) -> Event
     requires { ⌜ at + eventSize ≤ length (now s) ⌝ }
     ensures { λ r. ⌜ r ≡ eventOf (part (now (s .entry)) at eventSize) ⌝ }
 {
     Event {
         kind: s[at],
-        sub: s[at + 1],
-        value: bytes::read_i32(s, at + 4),
+        sub: s[at + places::SUB],
+        value: bytes::read_i32(s, at + places::VALUE),
     }
 }
 
-// Whether bytes 2-3 of the event from place at are zero.
+// Whether bytes 2-3 of the event from byte at are zero.
 pub fn reserved_zero(s: &[u8], at: usize) -> bool
     requires { ⌜ at + eventSize ≤ length (now s) ⌝ }
     ensures { λ r. ⌜ r ≡ reservedZero (part (now (s .entry)) at eventSize) ⌝ }
 {
-    bytes::read_u16(s, at + 2) == 0
+    bytes::read_u16(s, at + places::ZERO) == 0
 }
 
-// Whether the event from place at is legal; nearly all are samples, so those are told first.
+// Whether the event from byte at is legal; nearly all are samples, so those are told first.
 pub fn legal_event(s: &[u8], at: usize) -> bool
     requires { ⌜ at + eventSize ≤ length (now s) ⌝ }
     ensures { λ r. ⌜ r ≡ legalEvent (part (now (s .entry)) at eventSize) ⌝ }

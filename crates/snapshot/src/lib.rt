@@ -2,8 +2,9 @@
 pub mod codec;
 pub mod event;
 pub mod form;
-pub mod in_place;
+pub mod places;
 pub mod settings;
+pub mod split;
 
 // The bytes of a snapshot.
 pub const SNAPSHOT_SIZE: usize = 68;

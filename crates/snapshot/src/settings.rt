@@ -1,4 +1,5 @@
 // Settings in the 26 bytes of a snapshot that hold them.
+use crate::places;
 use counter::state::Settings;
 use word::bytes;
 ghost use mathlib.Core.Path.{_≡_};
@@ -12,21 +13,21 @@ ghost use Rattle.word.specs.Layouts.{pack};
 ghost use Rattle.snapshot.specs.Widths.{settingsSize, settingsLayout};
 ghost use Rattle.snapshot.specs.Snapshots.{settingsAt, settingsRow};
 
-// The settings from place at.
+// The settings from byte at.
 pub fn read_settings(s: &[u8], at: usize) -> Settings
     requires { ⌜ at + settingsSize ≤ length (now s) ⌝ }
     ensures { λ r. ⌜ r ≡ settingsAt (now (s .entry)) at ⌝ }
 {
     Settings {
         pfn: bytes::read_i16(s, at),
-        mode: bytes::read_i16(s, at + 2),
-        hip: bytes::read_i32(s, at + 4),
-        lop: bytes::read_i32(s, at + 8),
-        ovf: bytes::read_i32(s, at + 12),
-        unf: bytes::read_i32(s, at + 16),
-        omb: bytes::read_u16(s, at + 20),
-        hpo: bytes::read_u16(s, at + 22),
-        lpo: bytes::read_u16(s, at + 24),
+        mode: bytes::read_i16(s, at + places::MODE),
+        hip: bytes::read_i32(s, at + places::HIP),
+        lop: bytes::read_i32(s, at + places::LOP),
+        ovf: bytes::read_i32(s, at + places::OVF),
+        unf: bytes::read_i32(s, at + places::UNF),
+        omb: bytes::read_u16(s, at + places::OMB),
+        hpo: bytes::read_u16(s, at + places::HPO),
+        lpo: bytes::read_u16(s, at + places::LPO),
     }
 }
 
@@ -60,13 +61,13 @@ fn write_outputs(s: &mut [u8], at: usize, omb: u16, hpo: u16, lpo: u16)
     bytes::write_u16(s, at + 4, lpo);
 }
 
-// Writes the settings from place at.
+// Writes the settings from byte at.
 pub fn write_settings(v: Settings, s: &mut [u8], at: usize)
     requires { ⌜ at + settingsSize ≤ length (now s) ⌝ }
     ensures { λ _. ⌜ now (s .exit) ≡ put (now (s .entry)) at (pack settingsLayout (settingsRow v)) ⌝ }
 {
-    let limits = at + 4;
-    let outputs = at + 20;
+    let limits = at + places::HIP;
+    let outputs = at + places::OMB;
     write_modes(s, at, v.pfn, v.mode);
     write_limits(s, limits, v.hip, v.lop, v.ovf, v.unf);
     write_outputs(s, outputs, v.omb, v.hpo, v.lpo);

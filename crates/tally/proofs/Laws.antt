@@ -7,12 +7,13 @@ use Prim.Native.Nat.{ℕ, _+_, _*_, _<_}
 use native.Mathlib.Omega.{arith}
 use lib.Dec.{leb, eqb}
 use lib.ListN.{length, getD, set}
-use Rattle.word.proofs.Part.{set-put}
+use Rattle.word.proofs.Part.{getD-part, part-one}
+use Rattle.word.proofs.Put.{set-put}
 use Rattle.replay.specs.Machine.{Laws}
 use Rattle.replay.specs.Image.{Shape, event, snapshot, withSnapshot}
 use Rattle.replay.specs.Replay.{run}
-use Rattle.replay.specs.Mend.{sameBytes, settled}
-use Rattle.replay.proofs.Lists.{getD-part, part-one}
+use Rattle.word.specs.Same.{sameBytes}
+use Rattle.replay.specs.Mend.{settled}
 use Rattle.replay.proofs.Run.{run-suc}
 use Rattle.tally.specs.Tally.{added, tally, digit, stretch}
 

@@ -1,7 +1,7 @@
 // A trace of digits in a lent image: replay and mending. The start is the digit 0.
 use super::digit::advance;
 use super::digit::settled;
-use replay::bytes::copy_over;
+use word::parts::copy_over;
 ghost use mathlib.Core.Path.{_≡_};
 ghost use lib.ListN.{length};
 ghost use Rattle.replay.specs.Image.{Valid, Fitting};

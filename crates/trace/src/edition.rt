@@ -1,21 +1,18 @@
 // What depends on the image's edition: sizes, where replay starts, legal events, and a state in lent bytes. Nothing else asks for it.
 use counter::state::fresh;
-use replay::bytes::copy_over;
 use snapshot::MOVING_SIZE;
 use snapshot::SNAPSHOT_SIZE;
 use snapshot::codec;
 use snapshot::event;
 use snapshot::form;
-use snapshot::in_place;
+use snapshot::split;
 ghost use mathlib.Core.Path.{_≡_};
 ghost use mathlib.Core.Bool.{true};
 ghost use Prim.Native.Nat.{_+_, _≤_};
 ghost use lib.ListN.{length};
 ghost use Rattle.word.specs.Part.{part, put};
 ghost use Rattle.replay.specs.System.{Held};
-ghost use Rattle.snapshot.specs.Widths.{eventSize, snapshotSize, movingSize};
-ghost use Rattle.snapshot.specs.Snapshots.{encode};
-ghost use Rattle.snapshot.specs.Split.{splitState};
+ghost use Rattle.snapshot.specs.Widths.{eventSize};
 ghost use Rattle.trace.specs.Editions.{system, editionAt, maxSize, maxBeside};
 
 // The editions, by the header's sixth number.
@@ -103,7 +100,7 @@ pub fn load(ed: Edition, image: &[u8], at: usize, state: &mut [u8], moving: &mut
     ensures held { λ _. ⌜ Held (system ed) (now (state .exit)) (now (moving .exit)) ⌝ }
 {
     match ed {
-        Edition::Base => in_place::write_state(codec::decode(image, at), state, moving),
+        Edition::Base => split::load_state(image, at, state, moving),
     }
 }
 
@@ -115,16 +112,8 @@ pub fn step(ed: Edition, events: &[u8], at: usize, state: &mut [u8], moving: &mu
     ensures held { λ _. ⌜ Held (system ed) (now (state .exit)) (now (moving .exit)) ⌝ }
 {
     match ed {
-        Edition::Base => in_place::step_over(state, moving, events, at),
+        Edition::Base => split::step_over(state, moving, events, at),
     }
-}
-
-fn write_counter(image: &mut [u8], at: usize, state: &[u8], moving: &[u8])
-    requires { ⌜ (at + snapshotSize ≤ length (now image)) × (length (now state) ≡ snapshotSize) × (length (now moving) ≡ movingSize) ⌝ }
-    ensures { λ _. ⌜ now (image .exit) ≡ put (now (image .entry)) at (encode (splitState (now (state .entry)) (now (moving .entry)))) ⌝ }
-{
-    copy_over(image, at, state);
-    in_place::write_over(image, at, moving);
 }
 
 // Writes the state's snapshot from byte at on.
@@ -134,6 +123,6 @@ pub fn write(ed: Edition, image: &mut [u8], at: usize, state: &[u8], moving: &[u
         ≡ put (now (image .entry)) at (system ed .encode (system ed .stateIn (now (state .entry)) (now (moving .entry)))) ⌝ }
 {
     match ed {
-        Edition::Base => write_counter(image, at, state, moving),
+        Edition::Base => split::write_snapshot(image, at, state, moving),
     }
 }

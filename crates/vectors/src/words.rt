@@ -1,4 +1,4 @@
-// Crate `word`: numbers of 2 and 4 bytes, a row by a layout, masks.
+// Crate `word`: numbers of 2 and 4 bytes, alone and side by side, masks.
 use libc::STDOUT_FILENO;
 ghost use mathlib.Core.Path.{_≡_};
 ghost use Prim.Native.Nat.{_<_};
@@ -108,28 +108,24 @@ fn written(s: [u8; 9]) -> bool {
     front && back
 }
 
-// A row of a 2-byte, a 4-byte and a 1-byte number, written from place 1 of nine bytes.
+// A 2-byte, a 4-byte and a 1-byte number side by side, written from byte 1 of nine.
 fn write_example() -> [u8; 9]
     ensures { λ r. ⌜ length r ≡ 9 ⌝ }
 {
     let mut s = [GUARD; 9];
-    word::rows::write_row(&mut s, 1, &[2, 4, 1], &[65534, 2147483649, 7]);
+    word::bytes::write_u16(&mut s, 1, 65534);
+    word::bytes::write_u32(&mut s, 3, 2147483649);
+    s[7] = 7;
     s
-}
-
-// The row read back.
-fn read_example(s: [u8; 9]) -> [u32; 3] {
-    let mut row = [0u32; 3];
-    word::rows::read_row(&s, 1, &[2, 4, 1], &mut row);
-    row
 }
 
 fn row() {
     let s = write_example();
-    let back = read_example(s);
+    let first = word::bytes::read_u16(&s, 1);
+    let second = word::bytes::read_u32(&s, 3);
     io::write_all(STDOUT_FILENO, b"row 65534 2147483649 7");
     print_row(s);
-    let same = back[0] == 65534 && back[1] == 2147483649 && back[2] == 7;
+    let same = first == 65534 && second == 2147483649;
     verdict(same && written(s));
 }
 

@@ -19,6 +19,11 @@ yes-branch A b x y z e p = subst (λ (t : Bool). z ≡ cond t x y) (sym e) p
 pub no-branch : (A : Type 0) (b : Bool) (x y z : A) → b ≡ false → z ≡ y → z ≡ cond b x y
 no-branch A b x y z e p = subst (λ (t : Bool). z ≡ cond t x y) (sym e) p
 
+-- a choice by a test, by what the test says
+pub cond-cases {ℓ} : {A : Type 0} (P : A → Type ℓ) (t : Bool) (x y : A) → (t ≡ true → P x) → (t ≡ false → P y) → P (cond t x y)
+cond-cases P true x y p q = p refl
+cond-cases P false x y p q = q refl
+
 -- what a call's answer is, and what a test of that answer said
 pub told : {A : Type 0} {r b v : A} → r ≡ b → r ≡ v → b ≡ v
 told e t = sym e ∙ t

@@ -1,28 +1,17 @@
--- Laws of layouts: the length, and both round trips, by induction on the layout.
+-- Laws of layouts, by induction on the layout: the length, one number replaced, both round trips, and each number at its offset.
 use mathlib.Core.Path.{_≡_, refl, sym, ap, _∙_}
-use mathlib.Core.Bool.{Bool, true, false, _&&_, false≢true}
 use mathlib.Core.List.{List, [], _∷_, _++_}
-use Prim.Native.Nat.{ℕ, zero, suc, _+_, _<_, _≤_}
-use native.Mathlib.Nat.{suc-inj, suc-ne-zero, le-of-suc-le-suc}
-use native.Mathlib.Numerals.{add-one}
+use Prim.Native.Nat.{ℕ, zero, suc, _+_, _<_}
+use native.Mathlib.Nat.{add-zero, add-assoc, suc-inj, suc-ne-zero, le-of-suc-le-suc}
 use native.Mathlib.Omega.{arith}
-use borrow.Author.Tests.{leb-true}
-use lib.Dec.{leb, lit≤}
 use lib.ListN.{length, getD, take, drop, set, length-append, length-drop, take-append-drop}
-use lib.Seq.{length-take-le, take-at, drop-at, drop-cons}
+use lib.Seq.{length-take-le, take-at, drop-at, drop-drop}
 use Rattle.word.specs.Part.{Bytes, part, put}
 use Rattle.word.specs.LittleEndian.{toBytes, ofBytes, numberAt}
-use Rattle.word.specs.Layouts.{total, narrow, pack, unpack, Held, none, more}
-use Rattle.word.proofs.Part.{bytes-take, bytes-drop, take-part, drop-part, put-front, put-append}
-use Rattle.word.proofs.LittleEndian.{length-toBytes, ofBytes-lt, ofBytes-toBytes, toBytes-ofBytes}
-
-and-left : (a b : Bool) → (a && b) ≡ true → a ≡ true
-and-left true b h = refl
-and-left false b h = h
-
-and-right : (a b : Bool) → (a && b) ≡ true → b ≡ true
-and-right true b h = h
-and-right false b h = absurd (false≢true h)
+use Rattle.word.specs.Layouts.{total, pack, unpack, Held, none, more}
+use Rattle.word.proofs.Part.{bytes-take, bytes-drop, bytes-append, take-part, drop-part}
+use Rattle.word.proofs.Put.{put-front, put-append}
+use Rattle.word.proofs.LittleEndian.{length-toBytes, bytes-toBytes, ofBytes-lt, ofBytes-toBytes, toBytes-ofBytes}
 
 pub length-pack : (ks vs : List ℕ) → length vs ≡ length ks → length (pack ks vs) ≡ total ks
 unfolding pack total
@@ -31,37 +20,7 @@ length-pack (k ∷ ks) [] h = absurd (suc-ne-zero (length ks) (sym h))
 length-pack (k ∷ ks) (v ∷ vs) h =
     length-append (toBytes k v) (pack ks vs) ∙ cc (length-toBytes k v, length-pack ks vs (suc-inj h))
 
-pub length-unpack : (ks bs : List ℕ) → length (unpack ks bs) ≡ length ks
-unfolding unpack
-length-unpack [] bs = refl
-length-unpack (k ∷ ks) bs = ap suc (length-unpack ks (drop k bs))
-
-pub narrow-at : (ks : List ℕ) → narrow ks ≡ true → (i : ℕ) → getD ks i 0 ≤ 4
-unfolding narrow
-narrow-at [] h i = lit≤ tt
-narrow-at (k ∷ ks) h zero = leb-true k 4 (and-left (leb k 4) (narrow ks) h)
-narrow-at (k ∷ ks) h (suc i) = narrow-at ks (and-right (leb k 4) (narrow ks) h) i
-
--- ---- number i and those after it: how a loop over the layout goes on
-
-module _ (ks : List ℕ) (i : ℕ) (h : i < length ks) where
-  pub total-drop : total (drop i ks) ≡ getD ks i 0 + total (drop (i + 1) ks)
-  unfolding total
-  total-drop = rw (add-one, drop-cons ks i 0 h)
-
-  pub pack-drop : (vs : List ℕ) → length vs ≡ length ks → pack (drop i ks) (drop i vs) ≡ toBytes (getD ks i 0) (getD vs i 0) ++ pack (drop (i + 1) ks) (drop (i + 1) vs)
-  unfolding pack
-  pack-drop vs e = rw (add-one, drop-cons ks i 0 h, drop-cons vs i 0 (omega arith))
-
-  pub unpack-drop : (s : List ℕ) (at : ℕ) → unpack (drop i ks) (part s at (total (drop i ks))) ≡ numberAt s at (getD ks i 0) ∷ unpack (drop (i + 1) ks) (part s (at + getD ks i 0) (total (drop (i + 1) ks)))
-  unfolding unpack
-  unpack-drop s at =
-      let k : ℕ = getD ks i 0 in
-      let rest : List ℕ = drop (i + 1) ks in
-      let split : drop i ks ≡ k ∷ rest = rw add-one (drop-cons ks i 0 h) in
-      rw (total-drop, split, take-part s at k (total rest), drop-part s at k (total rest))
-
--- number i of a row is replaced by writing its bytes over those that stand there
+-- number i of a row is replaced by writing the bytes of the new one over those of the old
 pub pack-set : (ks vs : List ℕ) (i v : ℕ) → i < length ks → length vs ≡ length ks
     → put (pack ks vs) (total (take i ks)) (toBytes (getD ks i 0) v) ≡ pack ks (set vs i v)
 unfolding pack total
@@ -80,7 +39,8 @@ pub unpack-pack : {ks vs : List ℕ} → Held ks vs → unpack ks (pack ks vs) �
 unfolding pack unpack
 unpack-pack none = refl
 unpack-pack (more {k = k} {v = v} {ks = ks} {vs = vs} h r) =
-    rw (take-at (toBytes k v) (pack ks vs) k (length-toBytes k v), drop-at (toBytes k v) (pack ks vs) k (length-toBytes k v), ofBytes-toBytes k v h, unpack-pack r)
+    let long : length (toBytes k v) ≡ k = length-toBytes k v in
+    rw (take-at (toBytes k v) (pack ks vs) k long, drop-at (toBytes k v) (pack ks vs) k long, ofBytes-toBytes k v h, unpack-pack r)
 
 -- the first number of a layout, and the bytes that are left for the others
 module _ (k : ℕ) (ks bs : List ℕ) (b : Bytes bs) (h : length bs ≡ k + total ks) where
@@ -106,3 +66,40 @@ held-unpack [] bs b h = none
 held-unpack (k ∷ ks) bs b h =
     more (rw (length-first k ks bs b h) at (ofBytes-lt (take k bs) (bytes-take k bs b)))
     (held-unpack ks (drop k bs) (bytes-drop k bs b) (length-rest k ks bs b h))
+
+-- ---- rows side by side, and a row's bytes
+
+pub held-append : {ks ls vs ws : List ℕ} → Held ks vs → Held ls ws → Held (ks ++ ls) (vs ++ ws)
+held-append none g = g
+held-append (more b h) g = more b (held-append h g)
+
+pub bytes-pack : (ks vs : List ℕ) → Bytes (pack ks vs)
+unfolding pack
+bytes-pack [] vs i = omega arith
+bytes-pack (k ∷ ks) [] i = omega arith
+bytes-pack (k ∷ ks) (v ∷ vs) i = bytes-append (toBytes k v) (pack ks vs) (bytes-toBytes k v) (bytes-pack ks vs) i
+
+-- ---- numbers at their offsets
+
+-- the numbers of a layout whose first is i bytes past byte at
+abbrev pub numbersAt : List ℕ → List ℕ → ℕ → ℕ → List ℕ
+numbersAt [] s at i = []
+numbersAt (k ∷ ks) s at i = numberAt s (at + i) k ∷ numbersAt ks s at (i + k)
+
+pub unpack-from : (ks s : List ℕ) (at i : ℕ) → unpack ks (drop (at + i) s) ≡ numbersAt ks s at i
+unfolding unpack part
+unpack-from [] s at i = refl
+unpack-from (k ∷ ks) s at i = rw (drop-drop k (at + i) s, add-assoc at i k, unpack-from ks s at (i + k))
+
+unpack-part : (ks s : List ℕ) (at i : ℕ) → unpack ks (part s (at + i) (total ks)) ≡ numbersAt ks s at i
+unfolding unpack total
+unpack-part [] s at i = refl
+unpack-part (k ∷ ks) s at i =
+    rw (take-part s (at + i) k (total ks), drop-part s (at + i) k (total ks), add-assoc at i k, unpack-part ks s at (i + k))
+
+-- a layout's numbers in the bytes that it takes from byte at, and in a part that is those bytes
+pub unpack-here : (ks s : List ℕ) (at : ℕ) → unpack ks (part s at (total ks)) ≡ numbersAt ks s at 0
+unpack-here ks s at = rw add-zero at (unpack-part ks s at 0)
+
+pub numbers-part : (ks s : List ℕ) (at : ℕ) → numbersAt ks (part s at (total ks)) 0 0 ≡ numbersAt ks s at 0
+numbers-part ks s at = sym (unpack-from ks (part s at (total ks)) 0 0) ∙ unpack-here ks s at

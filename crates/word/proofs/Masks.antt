@@ -1,9 +1,10 @@
 -- Laws of the masks, once over the width: bit m of a word with bit n set or cleared, and of a merge. Bits of `bitAnd` and `bitOr`
 -- go by halves: bit n of a word is the parity of its quotient by 2 ^ n.
 use mathlib.Core.Path.{_≡_, refl, sym, ap, _∙_}
-use mathlib.Core.Bool.{Bool, true, false, cond, not, _&&_, _||_, and-true}
+use mathlib.Core.Bool.{Bool, true, false, cond, not, _&&_, _||_, and-true, false≢true, true≢false}
 use Prim.Native.Nat.{ℕ, zero, suc, _+_, _-_, _*_, _/_, _%_, _^_, _<_, _≤_, min, max}
-use native.Mathlib.Nat.{one-mul, mod-eq-of-lt, mod-lt, pow-suc, div-div-eq-div-mul, mul-comm, div-one, le-of-suc-le-suc, mul-add-mod-self-right, lt-of-le-of-lt, zero-div, div-eq-of-lt, lt-of-lt-of-le, sub-zero}
+use native.Mathlib.Nat.{one-mul, mul-comm, mod-eq-of-lt, mod-lt, mul-add-mod-self-right, pow-suc, sub-zero}
+use native.Mathlib.Nat.{div-div-eq-div-mul, div-one, zero-div, div-eq-of-lt, le-of-suc-le-suc, lt-of-le-of-lt, lt-of-lt-of-le}
 use native.Mathlib.Omega.{arith}
 use lib.Bits.{bitAnd, bitOr, and-shr, or-shr, and-step, or-step, and-le-l, or-lt, and-mask}
 use lib.Dec.{eqb, eqb·suc-suc, eqb·zero-suc, eqb·suc-zero, lit<}
@@ -39,9 +40,7 @@ bit-power (suc n) (suc m) =
     let half : 2 ^ suc n / 2 ≡ 2 ^ n = rw pow-suc (omega arith) in
     bit-suc (2 ^ suc n) m ∙ ap (λ (w : ℕ). bit w m) half ∙ bit-power n m ∙ sym (eqb·suc-suc n m)
 
--- ---- and, or, not
-
--- the parities of two numbers, told apart
+-- two parities, case by case
 parities : (P : ℕ → ℕ → Type 0) → P 0 0 → P 0 1 → P 1 0 → P 1 1 → (p q : ℕ) → p < 2 → q < 2 → P p q
 parities P a b c d zero zero h k = a
 parities P a b c d zero (suc zero) h k = b
@@ -50,6 +49,22 @@ parities P a b c d (suc zero) (suc zero) h k = d
 parities P a b c d zero (suc (suc q)) h k = absurd (omega arith)
 parities P a b c d (suc zero) (suc (suc q)) h k = absurd (omega arith)
 parities P a b c d (suc (suc p)) q h k = absurd (omega arith)
+
+-- words of k bits with the same bits are equal
+pub word-ext : (k v w : ℕ) → v < 2 ^ k → w < 2 ^ k → ((n : ℕ) → n < k → bit v n ≡ bit w n) → v ≡ w
+word-ext zero v w a b same = omega arith
+word-ext (suc k) v w a b same =
+    let a2 : v < 2 ^ k * 2 = rw pow-suc at a in
+    let b2 : w < 2 ^ k * 2 = rw pow-suc at b in
+    let halves : v / 2 ≡ w / 2 =
+    word-ext k (v / 2) (w / 2) (omega arith) (omega arith) (λ n h. sym (bit-suc v n) ∙ same (suc n) (omega (arith, h)) ∙ bit-suc w n) in
+    let lowest : eqb (v % 2) 1 ≡ eqb (w % 2) 1 = sym (bit-zero v) ∙ same 0 (omega arith) ∙ bit-zero w in
+    let odd : v % 2 ≡ w % 2 =
+    parities (λ p q. eqb p 1 ≡ eqb q 1 → p ≡ q) (λ e. refl) (λ e. absurd (false≢true e)) (λ e. absurd (true≢false e)) (λ e. refl) (v % 2) (w % 2)
+    (mod-lt v (lit< tt)) (mod-lt w (lit< tt)) lowest in
+    omega arith
+
+-- ---- and, or, not
 
 -- a bitwise operation that acts on parities by f acts on each bit by b
 module _ (op f : ℕ → ℕ → ℕ) (b : Bool → Bool → Bool)

@@ -1,182 +1,153 @@
--- Laws of `part` and `put`: lengths, a part of a list after a write, and two writes in a row. Most go by the element at each index.
-use mathlib.Core.Path.{_≡_, refl, sym, ap, _∙_}
-use lib.Dec.{lit<}
+-- Laws of `part`: its length, a part after a write, a part of a part, and bytes.
+use mathlib.Core.Path.{_≡_, sym, ap, _∙_}
 use mathlib.Core.List.{List, [], _∷_, _++_, append-assoc, append-nil}
 use Prim.Native.Nat.{ℕ, zero, suc, _+_, _-_, _≤_, _<_}
-use native.Mathlib.Nat.{add-zero, add-assoc, zero-add, suc-add, le-refl, le-trans, le-of-eq, le-add-right}
-use native.Mathlib.Numerals.{add-one}
+use native.Mathlib.Nat.{zero-add, suc-add, le-refl, le-trans, le-of-eq, le-add-right}
 use native.Mathlib.Omega.{arith}
-use lib.ListN.{length, take, drop, set, length-append, length-drop, take-append-drop, drop-of-length-le}
-use lib.Seq.{length-take-le, take-append-le, take-append-seam, drop-append-le, drop-append-add, drop-at, take-at, take-take, take-nil, drop-drop, getD-drop, set-split, take-all}
+use lib.Dec.{lit<}
+use lib.ListN.{length, getD, take, drop, length-append, length-drop, take-append-drop, drop-of-length-le}
+use lib.Seq.{length-take-le, take-append-le, take-append-seam, drop-append-le, drop-append-add, drop-at, take-at, drop-cons}
+use lib.Seq.{take-take, take-nil, drop-drop, getD-take, getD-drop, take-all}
 use Rattle.word.specs.Part.{Bytes, part, put}
 
--- ---- length
+module _ {A : Type 0} where
+  -- ---- length
 
-pub length-part : (l : List ℕ) (at n : ℕ) → at + n ≤ length l → length (part l at n) ≡ n
-unfolding part
-length-part l at n h = length-take-le n (drop at l) (simp length-drop (omega arith))
+  pub length-part : (l : List A) (at n : ℕ) → at + n ≤ length l → length (part l at n) ≡ n
+  unfolding part
+  length-part l at n h = length-take-le n (drop at l) (simp length-drop (omega arith))
 
-pub length-put : (l : List ℕ) (at : ℕ) (bs : List ℕ) → at + length bs ≤ length l → length (put l at bs) ≡ length l
-unfolding put
-length-put l at bs h = simp (length-append, length-drop, length-take-le at l (le-trans (le-add-right at (length bs)) h)) (omega arith)
+  pub length-put : (l : List A) (at : ℕ) (bs : List A) → at + length bs ≤ length l → length (put l at bs) ≡ length l
+  unfolding put
+  length-put l at bs h = simp (length-append, length-drop, length-take-le at l (le-trans (le-add-right at (length bs)) h)) (omega arith)
 
--- ---- before and after a write
+  -- ---- before and after a write
 
--- what stands before a written part is as it was
-pub take-put : (l : List ℕ) (at : ℕ) (bs : List ℕ) (n : ℕ) → n ≤ at → at ≤ length l → take n (put l at bs) ≡ take n l
-unfolding put
-take-put l at bs n h k =
-    take-append-le n (take at l) (bs ++ drop (at + length bs) l) (rw (length-take-le at l k) h) ∙ take-take n at l h
+  -- before the write, all is as it was
+  pub take-put : (l : List A) (at : ℕ) (bs : List A) (n : ℕ) → n ≤ at → at ≤ length l → take n (put l at bs) ≡ take n l
+  unfolding put
+  take-put l at bs n h k =
+      take-append-le n (take at l) (bs ++ drop (at + length bs) l) (rw (length-take-le at l k) h) ∙ take-take n at l h
 
--- what stands past it is as it was
-pub drop-put : (l : List ℕ) (at : ℕ) (bs : List ℕ) (n : ℕ) → at + length bs ≤ n → at ≤ length l → drop n (put l at bs) ≡ drop n l
-unfolding put
-drop-put l at bs n h k =
-    let a : List ℕ = take at l ++ bs in
-    let e : length a ≡ at + length bs = length-append (take at l) bs ∙ ap (λ (m : ℕ). m + length bs) (length-take-le at l k) in
-    let past : n ≡ length a + (n - length a) = omega arith in
-    let rest : at + length bs + (n - length a) ≡ n = omega arith in
-    ap (drop n) (sym (append-assoc (take at l) bs (drop (at + length bs) l)))
-    ∙ ap (λ (m : ℕ). drop m (a ++ drop (at + length bs) l)) past
-    ∙ drop-append-add a (drop (at + length bs) l) (n - length a)
-    ∙ drop-drop (n - length a) (at + length bs) l
-    ∙ ap (λ (m : ℕ). drop m l) rest
+  -- up to the end of what was written
+  pub take-put-end : (l : List A) (at : ℕ) (bs : List A) → at ≤ length l → take (at + length bs) (put l at bs) ≡ take at l ++ bs
+  unfolding put
+  take-put-end l at bs h =
+      let front : length (take at l ++ bs) ≡ at + length bs =
+      length-append (take at l) bs ∙ ap (λ (m : ℕ). m + length bs) (length-take-le at l h) in
+      ap (take (at + length bs)) (sym (append-assoc (take at l) bs (drop (at + length bs) l)))
+      ∙ take-at (take at l ++ bs) (drop (at + length bs) l) (at + length bs) front
 
--- ---- a part after a write
+  -- past the write, all is as it was
+  pub drop-put : (l : List A) (at : ℕ) (bs : List A) (n : ℕ) → at + length bs ≤ n → at ≤ length l → drop n (put l at bs) ≡ drop n l
+  unfolding put
+  drop-put l at bs n h k =
+      let a : List A = take at l ++ bs in
+      let e : length a ≡ at + length bs = length-append (take at l) bs ∙ ap (λ (m : ℕ). m + length bs) (length-take-le at l k) in
+      let past : n ≡ length a + (n - length a) = omega arith in
+      let rest : at + length bs + (n - length a) ≡ n = omega arith in
+      ap (drop n) (sym (append-assoc (take at l) bs (drop (at + length bs) l)))
+      ∙ ap (λ (m : ℕ). drop m (a ++ drop (at + length bs) l)) past
+      ∙ drop-append-add a (drop (at + length bs) l) (n - length a)
+      ∙ drop-drop (n - length a) (at + length bs) l
+      ∙ ap (λ (m : ℕ). drop m l) rest
 
--- at the place that was written
-pub part-put : (l : List ℕ) (at : ℕ) (bs : List ℕ) → at ≤ length l → part (put l at bs) at (length bs) ≡ bs
-unfolding part put
-part-put l at bs h =
-    ap (take (length bs)) (drop-at (take at l) (bs ++ drop (at + length bs) l) at (length-take-le at l h))
-    ∙ take-append-seam bs (drop (at + length bs) l)
+  -- ---- a part after a write
 
--- a part that ends before a place is a part of what stands before that place
-drop-take : (k m : ℕ) (l : List ℕ) → drop k (take (k + m) l) ≡ take m (drop k l)
-drop-take zero m l = rw zero-add
-drop-take (suc k) m [] = rw (suc-add, take-nil m)
-drop-take (suc k) m (x ∷ xs) = rw suc-add (drop-take k m xs)
+  -- where it was written
+  pub part-put : (l : List A) (at : ℕ) (bs : List A) → at ≤ length l → part (put l at bs) at (length bs) ≡ bs
+  unfolding part put
+  part-put l at bs h =
+      ap (take (length bs)) (drop-at (take at l) (bs ++ drop (at + length bs) l) at (length-take-le at l h))
+      ∙ take-append-seam bs (drop (at + length bs) l)
 
-pub part-take : (l : List ℕ) (at k n : ℕ) → k + n ≤ at → part (take at l) k n ≡ part l k n
-unfolding part
-part-take l at k n h =
-    sym (drop-take k n (take at l)) ∙ ap (drop k) (take-take (k + n) at l h) ∙ drop-take k n l
+  -- a part of the first `at` elements is a part of the whole
+  drop-take : (k m : ℕ) (l : List A) → drop k (take (k + m) l) ≡ take m (drop k l)
+  drop-take zero m l = rw zero-add
+  drop-take (suc k) m [] = rw (suc-add, take-nil m)
+  drop-take (suc k) m (x ∷ xs) = rw suc-add (drop-take k m xs)
 
--- the front and the rest of a part
-pub take-part : (l : List ℕ) (at k m : ℕ) → take k (part l at (k + m)) ≡ part l at k
-unfolding part
-take-part l at k m = take-take k (k + m) (drop at l) (le-add-right k m)
+  pub part-take : (l : List A) (at k n : ℕ) → k + n ≤ at → part (take at l) k n ≡ part l k n
+  unfolding part
+  part-take l at k n h =
+      sym (drop-take k n (take at l)) ∙ ap (drop k) (take-take (k + n) at l h) ∙ drop-take k n l
 
-pub drop-part : (l : List ℕ) (at k m : ℕ) → drop k (part l at (k + m)) ≡ part l (at + k) m
-unfolding part
-drop-part l at k m = drop-take k m (drop at l) ∙ ap (take m) (drop-drop k at l)
+  -- the front and the rest of a part
+  pub take-part : (l : List A) (at k m : ℕ) → take k (part l at (k + m)) ≡ part l at k
+  unfolding part
+  take-part l at k m = take-take k (k + m) (drop at l) (le-add-right k m)
 
--- at a place before it
-pub part-put-before : (l : List ℕ) (at : ℕ) (bs : List ℕ) (k n : ℕ) → k + n ≤ at → at ≤ length l → part (put l at bs) k n ≡ part l k n
-part-put-before l at bs k n h b =
-    sym (part-take (put l at bs) at k n h)
-    ∙ ap (λ (m : List ℕ). part m k n) (take-put l at bs at (le-refl at) b)
-    ∙ part-take l at k n h
+  pub drop-part : (l : List A) (at k m : ℕ) → drop k (part l at (k + m)) ≡ part l (at + k) m
+  unfolding part
+  drop-part l at k m = drop-take k m (drop at l) ∙ ap (take m) (drop-drop k at l)
 
--- at a place past it
-pub part-put-past : (l : List ℕ) (at : ℕ) (bs : List ℕ) (k n : ℕ) → at + length bs ≤ k → at ≤ length l → part (put l at bs) k n ≡ part l k n
-unfolding part
-part-put-past l at bs k n h b = ap (take n) (drop-put l at bs k h b)
+  -- before it
+  pub part-put-before : (l : List A) (at : ℕ) (bs : List A) (k n : ℕ) → k + n ≤ at → at ≤ length l → part (put l at bs) k n ≡ part l k n
+  part-put-before l at bs k n h b =
+      sym (part-take (put l at bs) at k n h)
+      ∙ ap (λ (m : List A). part m k n) (take-put l at bs at (le-refl at) b)
+      ∙ part-take l at k n h
 
--- a part that is written back changes nothing
-pub put-part : (l : List ℕ) (at n : ℕ) → at + n ≤ length l → put l at (part l at n) ≡ l
-unfolding part put
-put-part l at n h =
-    let e : length (take n (drop at l)) ≡ n = length-part l at n h in
-    ap (λ (m : ℕ). take at l ++ (take n (drop at l) ++ drop (at + m) l)) e
-    ∙ ap (λ (r : List ℕ). take at l ++ (take n (drop at l) ++ r)) (sym (drop-drop n at l))
-    ∙ ap (λ (r : List ℕ). take at l ++ r) (take-append-drop n (drop at l))
-    ∙ take-append-drop at l
+  -- past it
+  pub part-put-past : (l : List A) (at : ℕ) (bs : List A) (k n : ℕ) → at + length bs ≤ k → at ≤ length l → part (put l at bs) k n ≡ part l k n
+  unfolding part
+  part-put-past l at bs k n h b = ap (take n) (drop-put l at bs k h b)
 
--- ---- the whole of a list
+  -- a part that is written back changes nothing
+  pub put-part : (l : List A) (at n : ℕ) → at + n ≤ length l → put l at (part l at n) ≡ l
+  unfolding part put
+  put-part l at n h =
+      let e : length (take n (drop at l)) ≡ n = length-part l at n h in
+      ap (λ (m : ℕ). take at l ++ (take n (drop at l) ++ drop (at + m) l)) e
+      ∙ ap (λ (r : List A). take at l ++ (take n (drop at l) ++ r)) (sym (drop-drop n at l))
+      ∙ ap (λ (r : List A). take at l ++ r) (take-append-drop n (drop at l))
+      ∙ take-append-drop at l
 
-pub part-whole : (l : List ℕ) (n : ℕ) → length l ≡ n → part l 0 n ≡ l
-unfolding part
-part-whole l n e = take-all n l (le-of-eq e)
+  -- ---- the whole of a list
 
-pub put-whole : (l bs : List ℕ) → length l ≡ length bs → put l 0 bs ≡ bs
-unfolding put
-put-whole l bs e = rw (zero-add, drop-of-length-le l (le-of-eq e), append-nil)
+  pub part-whole : (l : List A) (n : ℕ) → length l ≡ n → part l 0 n ≡ l
+  unfolding part
+  part-whole l n e = take-all n l (le-of-eq e)
 
--- ---- writes in a row
+  pub put-whole : (l bs : List A) → length l ≡ length bs → put l 0 bs ≡ bs
+  unfolding put
+  put-whole l bs e = rw (zero-add, drop-of-length-le l (le-of-eq e), append-nil)
 
--- two writes side by side are one
-pub put-put : (l : List ℕ) (at : ℕ) (a b : List ℕ) → at ≤ length l → put (put l at a) (at + length a) b ≡ put l at (a ++ b)
-unfolding put
-put-put l at a b h =
-    let front : length (take at l ++ a) ≡ at + length a = length-append (take at l) a ∙ ap (λ (m : ℕ). m + length a) (length-take-le at l h) in
-    let far : at + length a + length b ≡ at + length (a ++ b) = rw (length-append, add-assoc) in
-    ap (λ (r : List ℕ). r ++ (b ++ drop (at + length a + length b) (put l at a)))
-    (ap (take (at + length a)) (sym (append-assoc (take at l) a (drop (at + length a) l))) ∙ take-at (take at l ++ a) (drop (at + length a) l) (at + length a) front)
-    ∙ ap (λ (r : List ℕ). (take at l ++ a) ++ (b ++ r)) (drop-put l at a (at + length a + length b) (le-add-right (at + length a) (length b)) h)
-    ∙ append-assoc (take at l) a (b ++ drop (at + length a + length b) l)
-    ∙ ap (λ (r : List ℕ). take at l ++ r) (sym (append-assoc a b (drop (at + length a + length b) l)))
-    ∙ ap (λ (m : ℕ). take at l ++ ((a ++ b) ++ drop m l)) far
+  -- ---- a part
 
--- a write over a list's front
-pub put-front : (a r bs : List ℕ) → length a ≡ length bs → put (a ++ r) 0 bs ≡ bs ++ r
-unfolding put
-put-front a r bs e = rw (zero-add, drop-at a r (length bs) e)
+  -- a part that lies in the first of two lists
+  pub part-append : (a b : List A) (k n : ℕ) → k + n ≤ length a → part (a ++ b) k n ≡ part a k n
+  unfolding part
+  part-append a b k n h =
+      ap (take n) (drop-append-le k a b (le-trans (le-add-right k n) h))
+      ∙ take-append-le n (drop k a) b (simp length-drop (omega arith))
 
--- a write past a list's front is a write to what follows it
-pub put-append : (a r : List ℕ) (t : ℕ) (bs : List ℕ) → put (a ++ r) (length a + t) bs ≡ a ++ put r t bs
-unfolding put
-put-append [] r t bs = rw zero-add
-put-append (x ∷ xs) r t bs = rw (suc-add (length xs) t, suc-add (length xs + t) (length bs)) (ap (λ (l : List ℕ). x ∷ l) (put-append xs r t bs))
+  -- one element of a part
+  pub getD-part : (l : List A) (at n i : ℕ) (d : A) → i < n → getD (part l at n) i d ≡ getD l (at + i) d
+  unfolding part
+  getD-part l at n i d h = rw (getD-take, getD-drop)
 
--- what `put` is, for terms in which it stands folded
-put-is : (l : List ℕ) (at : ℕ) (b : List ℕ) → put l at b ≡ take at l ++ (b ++ drop (at + length b) l)
-unfolding put
-put-is l at b = refl
+  -- a part of one element
+  pub part-one : (l : List A) (at : ℕ) (d : A) → at < length l → part l at 1 ≡ getD l at d ∷ []
+  unfolding part
+  part-one l at d h = rw (drop-cons l at d)
 
--- a write inside a list's front is a write to that front
-pub put-left : (b r : List ℕ) (k : ℕ) (c : List ℕ) → k + length c ≤ length b → put (b ++ r) k c ≡ put b k c ++ r
-unfolding put
-put-left b r k c h =
-    let first : take k (b ++ r) ≡ take k b = take-append-le k b r (omega arith) in
-    let rest : drop (k + length c) (b ++ r) ≡ drop (k + length c) b ++ r = drop-append-le (k + length c) b r h in
-    (λ i. first i ++ (c ++ rest i))
-    ∙ ap (λ (l : List ℕ). take k b ++ l) (sym (append-assoc c (drop (k + length c) b) r))
-    ∙ sym (append-assoc (take k b) (c ++ drop (k + length c) b) r)
+  -- ---- a part inside a write
 
-past-front : (l : List ℕ) (at : ℕ) (b : List ℕ) (k : ℕ) (c : List ℕ)
-    → put (put l at b) (length (take at l) + k) c ≡ take at l ++ put (b ++ drop (at + length b) l) k c
-past-front l at b k c = ap (λ (m : List ℕ). put m (length (take at l) + k) c) (put-is l at b) ∙ put-append (take at l) (b ++ drop (at + length b) l) k c
+  pub part-put-inside : (l : List A) (at : ℕ) (bs : List A) (k n : ℕ) → at ≤ length l → k + n ≤ length bs
+      → part (put l at bs) (at + k) n ≡ part bs k n
+  unfolding part put
+  part-put-inside l at bs k n b h =
+      let rest : List A = drop (at + length bs) l in
+      ap (λ (p : ℕ). take n (drop (p + k) (take at l ++ (bs ++ rest)))) (sym (length-take-le at l b))
+      ∙ ap (take n) (drop-append-add (take at l) (bs ++ rest) k)
+      ∙ part-append bs rest k n h
 
--- a write inside bytes that were written is a write to those bytes
-pub put-inside : (l : List ℕ) (at : ℕ) (b : List ℕ) (k : ℕ) (c : List ℕ) → at ≤ length l → k + length c ≤ length b
-    → put (put l at b) (at + k) c ≡ put l at (put b k c)
-put-inside l at b k c h inside =
-    let front : length (take at l) ≡ at = length-take-le at l h in
-    let tail : List ℕ = drop (at + length b) l in
-    let same : length (put b k c) ≡ length b = length-put b k c inside in
-    ap (λ (n : ℕ). put (put l at b) (n + k) c) (sym front)
-    ∙ past-front l at b k c
-    ∙ ap (λ (r : List ℕ). take at l ++ r) (put-left b tail k c inside)
-    ∙ ap (λ (n : ℕ). take at l ++ (put b k c ++ drop (at + n) l)) (sym same)
-    ∙ sym (put-is l at (put b k c))
-
--- bytes written over bytes that were written, as many
-pub put-again : (l : List ℕ) (at : ℕ) (b c : List ℕ) → at ≤ length l → length b ≡ length c → put (put l at b) at c ≡ put l at c
-put-again l at b c h e =
-    ap (λ (n : ℕ). put (put l at b) n c) (sym (add-zero at))
-    ∙ put-inside l at b 0 c h (omega (arith, e))
-    ∙ ap (put l at) (put-whole b c e)
-
--- no bytes written: nothing changes
-pub put-nil : (l : List ℕ) (at : ℕ) → put l at [] ≡ l
-unfolding put
-put-nil l at = ap (λ (m : ℕ). take at l ++ drop m l) (add-zero at) ∙ take-append-drop at l
-
--- one element written
-pub set-put : (l : List ℕ) (at v : ℕ) → at < length l → set l at v ≡ put l at (v ∷ [])
-unfolding put
-set-put l at v h = rw (add-one, set-split l at v)
+  -- a part of a part
+  pub part-part : (l : List A) (at m k n : ℕ) → at + m ≤ length l → k + n ≤ m → part (part l at m) k n ≡ part l (at + k) n
+  part-part l at m k n b h =
+      sym (part-put-inside l at (part l at m) k n (le-trans (le-add-right at m) b) (rw (length-part l at m b) h))
+      ∙ ap (λ (x : List A). part x (at + k) n) (put-part l at m b)
 
 -- ---- bytes
 

@@ -27,6 +27,17 @@ sfits-signed = sfits-toZ
 pub fits-unsigned : {w : Width} {z : ℤ} → SFits w z → Fits w (unsigned w z)
 fits-unsigned = fits-ofZ
 
+-- a signed number that a call answered, as its caller sees it: read from its bits
+pub signed-read : (w : Width) {z v : ℤ} → SFits w z → z ≡ v → signed w (unsigned w z) ≡ v
+signed-read w f e = signed-unsigned f ∙ e
+
+-- the bits of a signed number as a callee is handed it: read from its bits
+abbrev pub handed : Width → ℤ → ℕ
+handed w z = unsigned w (signed w (unsigned w z))
+
+pub bits-back : (w : Width) {z : ℤ} → SFits w z → handed w z ≡ unsigned w z
+bits-back w f = ap (unsigned w) (signed-unsigned f)
+
 -- ---- complement
 
 -- from m down twice

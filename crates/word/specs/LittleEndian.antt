@@ -13,6 +13,6 @@ unfoldable pub ofBytes : List ℕ → ℕ
 ofBytes [] = 0
 ofBytes (b ∷ bs) = b + 256 * ofBytes bs
 
--- the number in the k bytes from place at
+-- the number in the k bytes from byte at
 abbrev pub numberAt : List ℕ → ℕ → ℕ → ℕ
 numberAt s at k = ofBytes (part s at k)

@@ -1,4 +1,4 @@
--- Parts of a list of bytes: what stands at a place, and the list with other bytes there.
+-- Parts of a list: the elements from an offset, and the list with other elements there.
 use mathlib.Core.List.{List, _++_}
 use Prim.Native.Nat.{ℕ, _+_, _<_}
 use lib.ListN.{length, take, drop, getD}
@@ -7,10 +7,11 @@ use lib.ListN.{length, take, drop, getD}
 abbrev pub Bytes : List ℕ → Type 0
 Bytes l = (i : ℕ) → getD l i 0 < 256
 
--- the n elements of l from place at
-unfoldable pub part : List ℕ → ℕ → ℕ → List ℕ
-part l at n = take n (drop at l)
+module _ {A : Type 0} where
+  -- the n elements of l from offset at
+  unfoldable pub part : List A → ℕ → ℕ → List A
+  part l at n = take n (drop at l)
 
--- l with bs over the elements from place at; every other element as it was
-unfoldable pub put : List ℕ → ℕ → List ℕ → List ℕ
-put l at bs = take at l ++ (bs ++ drop (at + length bs) l)
+  -- l with bs over the elements from offset at; every other element as it was
+  unfoldable pub put : List A → ℕ → List A → List A
+  put l at bs = take at l ++ (bs ++ drop (at + length bs) l)

@@ -1,4 +1,4 @@
-// Little-endian numbers in a lent slice: read or written at a place.
+// Little-endian numbers in a lent slice: read or written at a byte offset.
 use crate::sign;
 ghost use mathlib.Core.Path.{_≡_};
 ghost use Prim.Native.Nat.{_+_, _≤_};
@@ -14,22 +14,8 @@ fn wide(b: u8) -> u32
     b as u32
 }
 
-// The number in the `width` bytes from place at, 4 at most.
-pub fn read_number(s: &[u8], at: usize, width: usize) -> u32
-    requires { ⌜ (width ≤ 4) × (at + width ≤ length (now s)) ⌝ }
-    ensures { λ r. ⌜ r ≡ numberAt (now (s .entry)) at width ⌝ }
-{
-    let mut v: u32 = 0;
-    let mut i = width;
-    while 0 < i {
-        v = v * 256 + wide(s[at + (i - 1)]);
-        i -= 1;
-    }
-    v
-}
-
-// Writes the lowest `width` bytes of v from place at.
-pub fn write_number(s: &mut [u8], at: usize, width: usize, v: u32)
+// Writes the lowest `width` bytes of v from byte at.
+fn write_number(s: &mut [u8], at: usize, width: usize, v: u32)
     requires { ⌜ at + width ≤ length (now s) ⌝ }
     ensures { λ _. ⌜ now (s .exit) ≡ put (now (s .entry)) at (toBytes width v) ⌝ }
 {
@@ -42,7 +28,7 @@ pub fn write_number(s: &mut [u8], at: usize, width: usize, v: u32)
     }
 }
 
-// Two and four bytes are read without a loop, so that the compiler reads them at once.
+// The number from byte at. Two and four bytes are read without a loop, so that the compiler reads them at once.
 pub fn read_u16(s: &[u8], at: usize) -> u16
     requires { ⌜ at + 2 ≤ length (now s) ⌝ }
     ensures { λ r. ⌜ r ≡ numberAt (now (s .entry)) at 2 ⌝ }

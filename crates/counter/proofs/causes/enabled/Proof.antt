@@ -10,12 +10,12 @@ has-requires c κs = search needs
 has-requires-2 : tie.Need-has-requires-2
 has-requires-2 c κs = search needs
 
-masked-requires : tie.Need-masked-requires
-masked-requires c κs = search needs
+unmasked-requires : tie.Need-unmasked-requires
+unmasked-requires c κs = search needs
 
 returns : tie.Need-returns
 unfolding enabled
 returns c = cc
 
 pub enabled-spec : {M : Type 1} → statement M
-enabled-spec = tie.close (tie.spec has-requires has-requires-2 masked-requires returns)
+enabled-spec = tie.close (tie.spec has-requires has-requires-2 unmasked-requires returns)

@@ -1,7 +1,6 @@
 -- `counter::causes::raise` meets its contract: outputs first, then an interrupt if the cause is enabled.
-use mathlib.Core.Path.{ap, _∙_}
 use borrow.Author.Needs.{needs}
-use Rattle.counter.specs.Interrupts.{post, raise}
+use Rattle.counter.specs.Interrupts.{interrupt, raise}
 use Rattle.word.proofs.Branches.{told}
 use Rattle.counter.proofs.causes.raise.Statement.{statement}
 use Rattle.counter.proofs.causes.raise.Tie as tie
@@ -12,14 +11,14 @@ with-outputs-requires c κs = search needs
 enabled-requires : tie.Need-enabled-requires
 enabled-requires c κs = search needs
 
-post-requires : tie.Need-post-requires
-post-requires c κs = search needs
+interrupt-requires : tie.Need-interrupt-requires
+interrupt-requires c κs = search needs
 
 returns : tie.Need-returns
 unfolding raise
 returns c =
     let tested = c .before .before in
-    rw (told (tested .enabled .ensures) (c .before .if1 .taken)) (c .post .ensures ∙ ap (post (tested .before .before .args .cause)) (tested .before .with-outputs .ensures))
+    rw (told (tested .enabled .ensures) (c .before .if1 .taken), ← tested .before .with-outputs .ensures) (c .interrupt .ensures)
 
 returns-2 : tie.Need-returns-2
 unfolding raise
@@ -27,4 +26,4 @@ returns-2 c = rw (told (c .before .enabled .ensures) (c .if1 .left)) (c .before 
 
 pub raise-spec : {M : Type 1} → statement M
 raise-spec =
-    tie.close (tie.spec with-outputs-requires enabled-requires post-requires returns returns-2)
+    tie.close (tie.spec with-outputs-requires enabled-requires interrupt-requires returns returns-2)

@@ -23,6 +23,16 @@ next-fits c = down-fits (c .before .fits .acc) (c .before .fits .unf) (above c)
 next : (c : tie.Else1) → signed w32 (unsigned w32 (signed w32 (unsigned w32 (c .before .args .acc)) -ℤ pos 1)) ≡ c .before .args .acc -ℤ pos 1
 next c = rw (signed-unsigned (c .before .fits .acc)) (signed-unsigned (next-fits c))
 
+lands : (c : tie.Then2) → eqZ (c .before .before .args .acc -ℤ pos 1) (c .before .before .args .lop) ≡ true
+lands c =
+    let f = c .before .before .fits in
+    eq-signed (next-fits (c .before)) (f .lop) (rw (signed-unsigned (f .acc)) at (c .if2 .taken))
+
+apart : (c : tie.Else2) → eqZ (c .before .before .args .acc -ℤ pos 1) (c .before .before .args .lop) ≡ false
+apart c =
+    let f = c .before .before .fits in
+    ne-signed (next-fits (c .before)) (f .lop) (rw (signed-unsigned (f .acc)) at (c .if2 .left))
+
 sub-next : tie.Need-sub-next
 sub-next c = rw (signed-unsigned (c .before .fits .acc)) (next-fits c)
 
@@ -34,17 +44,11 @@ returns c =
 
 returns-2 : tie.Need-returns-2
 unfolding down
-returns-2 c =
-    let start = c .before .before in
-    let lands : eqZ (start .args .acc -ℤ pos 1) (start .args .lop) ≡ true = eq-signed (next-fits (c .before)) (start .fits .lop) (rw (signed-unsigned (start .fits .acc)) at (c .if2 .taken)) in
-    rw (above (c .before), lands, next (c .before))
+returns-2 c = rw (above (c .before), lands c, next (c .before))
 
 returns-3 : tie.Need-returns-3
 unfolding down
-returns-3 c =
-    let start = c .before .before in
-    let apart : eqZ (start .args .acc -ℤ pos 1) (start .args .lop) ≡ false = ne-signed (next-fits (c .before)) (start .fits .lop) (rw (signed-unsigned (start .fits .acc)) at (c .if2 .left)) in
-    rw (above (c .before), apart, next (c .before))
+returns-3 c = rw (above (c .before), apart c, next (c .before))
 
 pub down-spec : {M : Type 1} → statement M
 down-spec = tie.close (tie.spec sub-next returns returns-2 returns-3)

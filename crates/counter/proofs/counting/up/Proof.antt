@@ -25,8 +25,13 @@ next c = rw (signed-unsigned (c .before .fits .acc)) (signed-unsigned (next-fits
 
 lands : (c : tie.Then3) → eqZ (c .before .before .args .acc +ℤ pos 1) (c .before .before .args .hip) ≡ true
 lands c =
-    let start = c .before .before in
-    eq-signed (next-fits (c .before)) (start .fits .hip) (rw (signed-unsigned (start .fits .acc)) at (c .if3 .taken))
+    let f = c .before .before .fits in
+    eq-signed (next-fits (c .before)) (f .hip) (rw (signed-unsigned (f .acc)) at (c .if3 .taken))
+
+apart : (c : tie.Else3) → eqZ (c .before .before .args .acc +ℤ pos 1) (c .before .before .args .hip) ≡ false
+apart c =
+    let f = c .before .before .fits in
+    ne-signed (next-fits (c .before)) (f .hip) (rw (signed-unsigned (f .acc)) at (c .if3 .left))
 
 add-next : tie.Need-add-next
 add-next c = rw (signed-unsigned (c .before .fits .acc)) (next-fits c)
@@ -51,10 +56,7 @@ returns-4 c = rw (below (c .before .before), lands (c .before), c .if4 .left, ne
 
 returns-5 : tie.Need-returns-5
 unfolding up
-returns-5 c =
-    let start = c .before .before in
-    let apart : eqZ (start .args .acc +ℤ pos 1) (start .args .hip) ≡ false = ne-signed (next-fits (c .before)) (start .fits .hip) (rw (signed-unsigned (start .fits .acc)) at (c .if3 .left)) in
-    rw (below (c .before), apart, next (c .before))
+returns-5 c = rw (below (c .before), apart c, next (c .before))
 
 pub up-spec : {M : Type 1} → statement M
 up-spec = tie.close (tie.spec add-next returns returns-2 returns-3 returns-4 returns-5)

@@ -8,15 +8,23 @@ use borrow.Author.Needs.{needs}
 use borrow.Author.Tests.{ne-eqb}
 use lib.Dec.{eqb}
 use Rattle.word.proofs.TwosComplement.{signed-unsigned}
-use Rattle.counter.specs.Events.{from, isZero, isWord, legalStaged, legalDevice, legalFlag, legal}
+use Rattle.counter.specs.Events.{inRange, isZero, isWord, legalStaged, legalDevice, legalFlag, legal}
 use Rattle.counter.proofs.Ranges.{inside, over}
 use Rattle.counter.proofs.legality.legal.Statement.{statement}
 use Rattle.counter.proofs.legality.legal.Tie as tie
 
-past-5 : (kind sub : ℕ) (v : ℤ) → 6 ≤ kind → legal kind sub v ≡ cond (from 6 8 kind) (eqb sub 0 && isZero v) (cond (eqb kind 9) (eqb sub 0 && isWord v) false)
+past-5 : (kind sub : ℕ) (v : ℤ) → 6 ≤ kind
+    → legal kind sub v ≡ cond (inRange 6 8 kind) (eqb sub 0 && isZero v) (cond (eqb kind 9) (eqb sub 0 && isWord v) false)
 unfolding legal
 past-5 kind sub v h =
-    rw (ne-eqb kind 0 (omega arith), ne-eqb kind 1 (omega arith), ne-eqb kind 2 (omega arith), ne-eqb kind 3 (omega arith), ne-eqb kind 4 (omega arith), ne-eqb kind 5 (omega arith))
+    rw (
+      ne-eqb kind 0 (omega arith),
+      ne-eqb kind 1 (omega arith),
+      ne-eqb kind 2 (omega arith),
+      ne-eqb kind 3 (omega arith),
+      ne-eqb kind 4 (omega arith),
+      ne-eqb kind 5 (omega arith),
+    )
 
 kind-past-5 : (c : tie.At-match-rest) → 6 ≤ c .before .args .kind
 kind-past-5 c =

@@ -21,7 +21,13 @@ returns : tie.Need-returns
 unfolding legalFlag
 returns c =
     let bits = c .before .before in
-    simp (bits .before .takes-bit .ensures, bits .is-bit .ensures, c .before .takes-zero .ensures, c .is-zero .ensures, signed-unsigned (bits .before .before .fits .v))
+    simp (
+      bits .before .takes-bit .ensures,
+      bits .is-bit .ensures,
+      c .before .takes-zero .ensures,
+      c .is-zero .ensures,
+      signed-unsigned (bits .before .before .fits .v),
+    )
 
 pub legal-flag-spec : {M : Type 1} → statement M
 legal-flag-spec = tie.close (tie.spec takes-bit-requires is-bit-requires takes-zero-requires is-zero-requires returns)

@@ -9,8 +9,8 @@ use Rattle.counter.proofs.loading.preset_load.Tie as tie
 has-requires : tie.Need-has-requires
 has-requires c κs = search needs
 
-presets-broken-requires : tie.Need-presets-broken-requires
-presets-broken-requires c κs = search needs
+preset-broken-requires : tie.Need-preset-broken-requires
+preset-broken-requires c κs = search needs
 
 accept-presets-requires : tie.Need-accept-presets-requires
 accept-presets-requires c κs = search needs
@@ -20,11 +20,18 @@ reject-requires c κs = search needs
 
 returns : tie.Need-returns
 unfolding presetLoad
-returns c = rw (told (c .before .before .before .before .has .ensures) (c .before .before .before .if1 .taken), ← c .before .before .presets-broken .ensures, eq-eqb _ _ (c .before .if2 .taken)) (c .accept-presets .ensures)
+returns c =
+    let tested = c .before .before in
+    let loaded = tested .before in
+    rw (told (loaded .before .has .ensures) (loaded .if1 .taken), ← tested .preset-broken .ensures, eq-eqb _ _ (c .before .if2 .taken))
+    (c .accept-presets .ensures)
 
 returns-2 : tie.Need-returns-2
 unfolding presetLoad
-returns-2 c = rw (told (c .before .before .before .before .has .ensures) (c .before .before .before .if1 .taken), ← c .before .before .presets-broken .ensures, ne-eqb _ _ (c .before .if2 .left)) (c .reject .ensures)
+returns-2 c =
+    let tested = c .before .before in
+    let loaded = tested .before in
+    rw (told (loaded .before .has .ensures) (loaded .if1 .taken), ← tested .preset-broken .ensures, ne-eqb _ _ (c .before .if2 .left)) (c .reject .ensures)
 
 returns-3 : tie.Need-returns-3
 unfolding presetLoad
@@ -35,7 +42,7 @@ preset-load-spec =
     tie.close
     (tie.spec
     has-requires
-    presets-broken-requires
+    preset-broken-requires
     accept-presets-requires
     reject-requires
     returns

@@ -1,5 +1,5 @@
 -- `counter::sampling::counted_down` meets its contract: the parts are handed on as the definition names them.
-use mathlib.Core.Path.{_≡_, _∙_}
+use mathlib.Core.Path.{_≡_}
 use mir.Syntax.{w32}
 use mir.Val.{SFits}
 use Rattle.word.proofs.TwosComplement.{signed-unsigned}
@@ -15,8 +15,7 @@ counted c =
     let k = told .before .before .args .c in
     let t = counter-told k _ (told .struct-told .given) in
     let a = settings-told (k .active) _ (c .before .before .before .struct-told2 .given) in
-    c .down .ensures
-    ∙ simp (signed-unsigned (t .acc), signed-unsigned (a .lop), signed-unsigned (a .ovf), signed-unsigned (a .unf))
+    simp (c .down .ensures, signed-unsigned (t .acc), signed-unsigned (a .lop), signed-unsigned (a .ovf), signed-unsigned (a .unf))
 
 down-requires : tie.Need-down-requires
 down-requires c κs = search needs

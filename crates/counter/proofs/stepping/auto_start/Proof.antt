@@ -21,7 +21,9 @@ reject-requires c κs = search needs
 
 returns : tie.Need-returns
 unfolding autoStart
-returns c = rw (← c .before .before .before .first-broken .ensures, eq-eqb _ _ (c .before .before .if1 .taken)) (c .enable .ensures ∙ ap (on FE) (c .before .accept .ensures))
+returns c =
+    let tested = c .before .before in
+    rw (← tested .before .first-broken .ensures, eq-eqb _ _ (tested .if1 .taken)) (c .enable .ensures ∙ ap (on FE) (c .before .accept .ensures))
 
 returns-2 : tie.Need-returns-2
 unfolding autoStart

@@ -1,7 +1,7 @@
 -- `counter::stepping::device` meets its contract: a number among the arms picks the definition's case.
 use borrow.Author.Needs.{needs}
-use borrow.Author.Tests.{ne-eqb}
 use Rattle.word.proofs.TwosComplement.{signed-unsigned}
+use Rattle.word.proofs.Branches.{branches}
 use Rattle.counter.specs.Events.{device}
 use Rattle.counter.proofs.stepping.device.Statement.{statement}
 use Rattle.counter.proofs.stepping.device.Tie as tie
@@ -29,7 +29,7 @@ returns-3 c = rw (c .before .match .keys3, c .word-of .ensures, signed-unsigned 
 
 returns-4 : tie.Need-returns-4
 unfolding device
-returns-4 c = rw (ne-eqb _ 1 (c .match .rest .0 .0 .1), ne-eqb _ 2 (c .match .rest .0 .1), ne-eqb _ 3 (c .match .rest .1))
+returns-4 c = search (branches, needs) depth 10
 
 pub device-spec : {M : Type 1} → statement M
 device-spec = tie.close (tie.spec short-of-requires short-of-requires-2 word-of-requires returns returns-2 returns-3 returns-4)

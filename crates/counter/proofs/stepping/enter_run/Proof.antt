@@ -1,8 +1,7 @@
 -- `counter::stepping::enter_run` meets its contract: the test is the definition's.
 use borrow.Author.Needs.{needs}
-use mathlib.Core.Path.{ap, _∙_}
 use Rattle.word.proofs.Branches.{told}
-use Rattle.counter.specs.Events.{autoStart, enterRun}
+use Rattle.counter.specs.Events.{enterRun}
 use Rattle.counter.proofs.stepping.enter_run.Statement.{statement}
 use Rattle.counter.proofs.stepping.enter_run.Tie as tie
 
@@ -17,7 +16,9 @@ auto-start-requires c κs = search needs
 
 returns : tie.Need-returns
 unfolding enterRun
-returns c = rw (told (c .before .before .has .ensures) (c .before .if1 .taken)) (c .auto-start .ensures ∙ ap autoStart (c .before .before .before .emptied .ensures))
+returns c =
+    let tested = c .before .before in
+    rw (told (tested .has .ensures) (c .before .if1 .taken), ← tested .before .emptied .ensures) (c .auto-start .ensures)
 
 returns-2 : tie.Need-returns-2
 unfolding enterRun

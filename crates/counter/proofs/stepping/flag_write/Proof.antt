@@ -4,7 +4,7 @@ use mathlib.Core.Path.{_≡_, ap, _∙_}
 use mathlib.Core.Bool.{Bool}
 use Rattle.word.proofs.TwosComplement.{signed-unsigned}
 use Rattle.word.proofs.Branches.{told}
-use Rattle.counter.specs.Events.{setTo, spRises, flagWrite}
+use Rattle.counter.specs.Events.{spRises, flagWrite}
 use Rattle.counter.proofs.stepping.flag_write.Statement.{statement}
 use Rattle.counter.proofs.stepping.flag_write.Tie as tie
 
@@ -27,8 +27,8 @@ returns c = rw (rising (c .before .before) _ (c .before .if1 .taken)) (c .load-b
 returns-2 : tie.Need-returns-2
 unfolding flagWrite
 returns-2 c =
-    let start = c .before .before .before in
-    rw (rising (c .before .before) _ (c .before .if1 .left)) (c .set-to .ensures ∙ ap (λ v. setTo (start .args .sub) v (start .args .c)) (signed-unsigned (start .fits .v)))
+    let tested = c .before .before in
+    rw (rising tested _ (c .before .if1 .left)) (rw (signed-unsigned (tested .before .fits .v)) at (c .set-to .ensures))
 
 pub flag-write-spec : {M : Type 1} → statement M
 flag-write-spec = tie.close (tie.spec sp-rises-requires load-by-sp-requires set-to-requires returns returns-2)

@@ -1,7 +1,7 @@
 -- `counter::stepping::staged` meets its contract: a number among the arms picks the definition's case.
 use borrow.Author.Needs.{needs}
-use borrow.Author.Tests.{ne-eqb}
 use Rattle.word.proofs.TwosComplement.{signed-unsigned}
+use Rattle.word.proofs.Branches.{branches}
 use Rattle.counter.specs.Events.{staged}
 use Rattle.counter.proofs.stepping.staged.Statement.{statement}
 use Rattle.counter.proofs.stepping.staged.Tie as tie
@@ -38,7 +38,7 @@ returns-6 c = rw (c .before .match .keys6, c .word-of2 .ensures, signed-unsigned
 
 returns-7 : tie.Need-returns-7
 unfolding staged
-returns-7 c = rw (ne-eqb _ 1 (c .match .rest .0 .0 .0 .0 .0 .1), ne-eqb _ 2 (c .match .rest .0 .0 .0 .0 .1), ne-eqb _ 3 (c .match .rest .0 .0 .0 .1), ne-eqb _ 4 (c .match .rest .0 .0 .1), ne-eqb _ 5 (c .match .rest .0 .1), ne-eqb _ 6 (c .match .rest .1))
+returns-7 c = search (branches, needs) depth 10
 
 pub staged-spec : {M : Type 1} → statement M
 staged-spec = tie.close (tie.spec word-of-requires word-of-requires-2 returns returns-2 returns-3 returns-4 returns-5 returns-6 returns-7)

@@ -1,18 +1,18 @@
 -- `hsc::filling::copy_row` meets its contract. The invariant: the first i numbers of the row are copied. The measure is what is left of it.
 use borrow.Author.Needs.{scaled-fits}
 use mathlib.Core.Path.{_≡_, refl, ap, _∙_}
-use mathlib.Core.List.{List}
+use mathlib.Core.List.{List, append-assoc}
 use Prim.Native.Nat.{ℕ, _+_, _-_, _≤_, zero-le}
 use native.Mathlib.Omega.{arith}
 use native.Mathlib.Numerals.{add-one}
 use denote.Ref.{now}
 use lib.IntN.{ℤ, pos}
-use lib.ListN.{length, getD, set, length-set}
+use lib.ListN.{length, getD, take, drop, set, length-set}
 use lib.Seq.{paste, paste-zero, paste-suc, take-length}
 use mir.Syntax.{w32}
 use mir.Val.{SFits, toZ, ofZ}
 use mir.Facts.{toZ-ofZ}
-use Rattle.hsc.specs.Fields.{over}
+use Rattle.word.specs.Part.{put}
 use Rattle.hsc.proofs.filling.copy_row.Statement.{statement}
 use Rattle.hsc.proofs.filling.copy_row.Tie as tie
 
@@ -23,9 +23,9 @@ abbrev μ-loop : tie.MeasureT-loop
 μ-loop fields₀ at row i₀ fields i = length row - i
 
 -- the whole row is copied
-pasted : (fields : List ℤ) (at : ℕ) (row : List ℤ) (i : ℕ) → i ≡ length row → paste fields at row i ≡ over fields at row
-unfolding over
-pasted fields at row i e = rw (e, take-length row)
+pasted : (fields : List ℤ) (at : ℕ) (row : List ℤ) (i : ℕ) → i ≡ length row → paste fields at row i ≡ put fields at row
+unfolding put
+pasted fields at row i e = rw (e, take-length row) (append-assoc (take at fields) row (drop (at + length row) fields))
 
 loop-holds : tie.Need-loop-holds Inv-loop μ-loop
 loop-holds c =

@@ -2,18 +2,17 @@
 use borrow.Author.Needs.{needs}
 use mathlib.Core.List.{[], _∷_}
 use mir.Syntax.{w32}
-use Rattle.word.proofs.TwosComplement.{signed-unsigned}
+use Rattle.word.proofs.TwosComplement.{signed-unsigned, signed-read}
 use Rattle.counter.proofs.Told.{counter-told}
-use Rattle.snapshot.proofs.Rows.{signed-told}
 use Rattle.hsc.proofs.Widened.{short-pos}
 use Rattle.hsc.proofs.filling.stored_row.Statement.{statement}
 use Rattle.hsc.proofs.filling.stored_row.Tie as tie
 
-cast-t3 : tie.Need-cast-t3
-cast-t3 c = search needs
-
 cast-t4 : tie.Need-cast-t4
 cast-t4 c = search needs
+
+cast-t5 : tie.Need-cast-t5
+cast-t5 c = search needs
 
 i32-of-requires : tie.Need-i32-of-requires
 i32-of-requires c κs = search needs
@@ -43,25 +42,25 @@ returns c =
     let running = first .before in
     let levels = running .before in
     let flags = levels .before in
-    let start = flags .before .before .before .before in
+    let start = flags .before .before .before .before .before in
     let told = c .struct-told .given in
     let typed = counter-told (start .args .c) _ told in
     λ i. signed-unsigned (typed .acc) i
     ∷ short-pos (told .1 .1 .1 .0 .1) i
     ∷ short-pos (told .1 .1 .1 .1 .0 .1) i
-    ∷ signed-told w32 (record { sfits = flags .i32-of .ok }) (flags .i32-of .ensures) i
-    ∷ signed-told w32 (record { sfits = levels .wide .ok }) (levels .wide .ensures) i
-    ∷ signed-told w32 (record { sfits = running .wide2 .ok }) (running .wide2 .ensures) i
-    ∷ signed-told w32 (record { sfits = first .wide3 .ok }) (first .wide3 .ensures) i
-    ∷ signed-told w32 (record { sfits = second .wide4 .ok }) (second .wide4 .ensures) i
+    ∷ signed-read w32 (record { sfits = flags .i32-of .ok }) (flags .i32-of .ensures) i
+    ∷ signed-read w32 (record { sfits = levels .wide .ok }) (levels .wide .ensures) i
+    ∷ signed-read w32 (record { sfits = running .wide2 .ok }) (running .wide2 .ensures) i
+    ∷ signed-read w32 (record { sfits = first .wide3 .ok }) (first .wide3 .ensures) i
+    ∷ signed-read w32 (record { sfits = second .wide4 .ok }) (second .wide4 .ensures) i
     ∷ []
 
 pub stored-row-spec : {M : Type 1} → statement M
 stored-row-spec =
     tie.close
     (tie.spec
-    cast-t3
     cast-t4
+    cast-t5
     i32-of-requires
     wide-requires
     wide-requires-2

@@ -16,7 +16,7 @@ use Rattle.snapshot.specs.Widths.{snapshotSize, eventSize}
 use Rattle.snapshot.specs.Snapshots.{encode, decode}
 use Rattle.snapshot.specs.EventBytes.{stepEvent}
 use Rattle.snapshot.specs.Split.{splitState}
-use Rattle.snapshot.proofs.InPlace.{read-whole}
+use Rattle.snapshot.proofs.Moving.{read-whole}
 use Rattle.snapshot.proofs.RoundTrip.{length-encode, good-decode}
 use Rattle.trace.specs.Counting.{counting, stretch}
 use Rattle.trace.proofs.Turns.{run-next}

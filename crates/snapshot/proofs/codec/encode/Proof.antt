@@ -4,33 +4,36 @@ use mathlib.Core.Path.{_≡_, refl, ap, _∙_}
 use mathlib.Core.List.{List, [], _∷_, _++_}
 use Prim.Native.Nat.{ℕ, _+_, _≤_}
 use native.Mathlib.Omega.{arith}
-use lib.ListN.{length, getD}
+use lib.ListN.{length}
 use denote.Ref.{now}
 use mir.Syntax.{w32}
 use Rattle.word.specs.Part.{put}
 use Rattle.word.specs.Layouts.{total, pack}
+use Rattle.word.proofs.TwosComplement.{handed, bits-back}
+use Rattle.word.proofs.Writes.{put-rows}
 use Rattle.counter.specs.declared.state.Counter.{Counter}
+use Rattle.counter.specs.Desk.{first, second}
 use Rattle.counter.specs.WellFormed.{Typed}
 use Rattle.counter.proofs.Told.{counter-told}
 use Rattle.snapshot.specs.Widths.{settingsLayout, snapshotLayout}
+use Rattle.snapshot.specs.Places.{activeAt, accAt, levelsAt}
 use Rattle.snapshot.specs.Snapshots.{settingsRow, encode}
-use Rattle.snapshot.proofs.Writes.{handed, bits-back, put-rows}
 use Rattle.snapshot.proofs.codec.encode.Statement.{statement}
 use Rattle.snapshot.proofs.codec.encode.Tie as tie
 
 -- what follows ACC
 abbrev other : Counter → List ℕ
-other v = v .out ∷ v .er ∷ v .flags ∷ v .levels ∷ v .running ∷ getD (v .waiting) 0 0 ∷ getD (v .waiting) 1 0 ∷ []
+other v = v .out ∷ v .er ∷ v .flags ∷ v .levels ∷ v .desk .running ∷ first (v .desk) ∷ second (v .desk) ∷ []
 
 rows : (v : Counter) → Typed v → (s t u w x : List ℕ) (at : ℕ) → at ≤ length s
     → t ≡ put s at (pack settingsLayout (settingsRow (v .staged)))
-    → u ≡ put t (at + 26) (pack settingsLayout (settingsRow (v .active)))
-    → w ≡ put u (at + 52) (pack (4 ∷ 2 ∷ 2 ∷ 4 ∷ []) (handed w32 (v .acc) ∷ v .out ∷ v .er ∷ v .flags ∷ []))
-    → x ≡ put w (at + 64) (pack (1 ∷ 1 ∷ 1 ∷ 1 ∷ []) (v .levels ∷ v .running ∷ getD (v .waiting) 0 0 ∷ getD (v .waiting) 1 0 ∷ []))
+    → u ≡ put t (at + activeAt) (pack settingsLayout (settingsRow (v .active)))
+    → w ≡ put u (at + accAt) (pack (4 ∷ 2 ∷ 2 ∷ 4 ∷ []) (handed w32 (v .acc) ∷ v .out ∷ v .er ∷ v .flags ∷ []))
+    → x ≡ put w (at + levelsAt) (pack (1 ∷ 1 ∷ 1 ∷ 1 ∷ []) (v .levels ∷ v .desk .running ∷ first (v .desk) ∷ second (v .desk) ∷ []))
     → x ≡ put s at (encode v)
 unfolding total encode
-rows v f s t u w x at h first second third fourth =
-    put-rows _ _ _ _ s w x at h (put-rows _ _ _ _ s u w at h (put-rows _ _ _ _ s t u at h first second refl) third refl) fourth refl
+rows v f s t u w x at h one two three four =
+    put-rows _ _ _ _ s w x at h (put-rows _ _ _ _ s u w at h (put-rows _ _ _ _ s t u at h one two refl) three refl) four refl
     ∙ ap (λ (n : ℕ). put s at (pack snapshotLayout (settingsRow (v .staged) ++ (settingsRow (v .active) ++ (n ∷ other v))))) (bits-back w32 (f .acc))
 
 add-active : tie.Need-add-active
@@ -58,22 +61,27 @@ array-read-write-causes-2 : tie.Need-array-read-write-causes-2
 array-read-write-causes-2 c = search needs
 
 write-causes-requires : tie.Need-write-causes-requires
-write-causes-requires c κs = search needs
+write-causes-requires c κs =
+    let words = c .before .before .before in
+    let active = words .before .before .before .before .before in
+    let staged = active .before .before .before .before in
+    let start = staged .before .before .before .before .before in
+    omega (arith, start .pre, staged .write-settings .kept .1 .0, active .write-settings2 .kept .1 .0, words .write-words .kept .0)
 
 same-length : tie.Need-same-length
 same-length c = search needs
 
 returns : tie.Need-returns
 returns c =
-    let fourth = c .before .before in
-    let third = fourth .before .before .before .before in
-    let told = third .before in
-    let second = told .before .before .before .before in
-    let first = second .before .before .before .before in
-    let start = first .before .before .before .before in
+    let causes = c .before .before in
+    let words = causes .before .before .before .before in
+    let told = words .before in
+    let active = told .before .before .before .before in
+    let staged = active .before .before .before .before in
+    let start = staged .before .before .before .before .before in
     let a = start .args in
-    rows (a .c) (counter-told (a .c) _ (told .struct-told .given)) (now (a .s)) _ _ _ _ (a .at) (omega (arith, start .pre)) (first .write-settings .ensures)
-    (second .write-settings2 .ensures) (third .write-words .ensures) (fourth .write-causes .ensures)
+    rows (a .c) (counter-told (a .c) _ (told .struct-told .given)) (now (a .s)) _ _ _ _ (a .at) (omega (arith, start .pre)) (staged .write-settings .ensures)
+    (active .write-settings2 .ensures) (words .write-words .ensures) (causes .write-causes .ensures)
 
 pub encode-spec : {M : Type 1} → statement M
 encode-spec =

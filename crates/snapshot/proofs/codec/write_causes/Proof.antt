@@ -8,7 +8,8 @@ use lib.ListN.{length, set, length-set}
 use denote.Ref.{now}
 use Rattle.word.specs.Part.{put}
 use Rattle.word.specs.Layouts.{total, pack}
-use Rattle.snapshot.proofs.Writes.{set-byte, then, end, wrote}
+use Rattle.word.proofs.LittleEndian.{set-byte}
+use Rattle.word.proofs.Writes.{then, end, wrote}
 use Rattle.snapshot.proofs.codec.write_causes.Statement.{statement}
 use Rattle.snapshot.proofs.codec.write_causes.Tie as tie
 

@@ -4,7 +4,8 @@ use mathlib.Core.Path.{refl}
 use denote.Ref.{now}
 use mir.Syntax.{w32}
 use Rattle.word.specs.Layouts.{total}
-use Rattle.snapshot.proofs.Writes.{bits-back, then, end, wrote}
+use Rattle.word.proofs.TwosComplement.{bits-back}
+use Rattle.word.proofs.Writes.{then, end, wrote}
 use Rattle.snapshot.proofs.codec.write_words.Statement.{statement}
 use Rattle.snapshot.proofs.codec.write_words.Tie as tie
 

@@ -10,7 +10,7 @@ use Rattle.counter.proofs.ByKind.{legal-sample}
 use Rattle.snapshot.specs.Widths.{eventSize}
 use Rattle.snapshot.specs.EventBytes.{eventOf, legalEvent}
 use Rattle.snapshot.specs.declared.event.Event.{Event}
-use Rattle.snapshot.proofs.Sampled.{sample-told}
+use Rattle.snapshot.proofs.Sampled.{sample-read}
 use Rattle.snapshot.proofs.event.legal_event.Statement.{statement}
 use Rattle.snapshot.proofs.event.legal_event.Tie as tie
 
@@ -38,7 +38,7 @@ returns c =
     let start = asked .before .before .before .before in
     let e : Event = eventOf (part (now (start .args .s)) (start .args .at) eventSize) in
     let fits : SFits w32 (event .result .value) = record { sfits = asked .before .struct-told .given .1 .1 .0 .1 } in
-    let sample = sample-told fits (event .ensures) (asked .is-sample .ensures) (test .if1 .taken) in
+    let sample = sample-read fits (event .ensures) (asked .is-sample .ensures) (test .if1 .taken) in
     rw (legal-sample (e .kind) (e .sub) (e .value) sample, and-true) (c .reserved-zero .ensures)
 
 returns-2 : tie.Need-returns-2

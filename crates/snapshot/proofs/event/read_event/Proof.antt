@@ -6,7 +6,7 @@ use native.Mathlib.Omega.{arith}
 use denote.Ref.{now}
 use mir.Syntax.{w32}
 use Rattle.word.proofs.LittleEndian.{numberAt-one}
-use Rattle.snapshot.proofs.Rows.{signed-told}
+use Rattle.word.proofs.TwosComplement.{signed-read}
 use Rattle.snapshot.proofs.Offsets.{event-part}
 use Rattle.snapshot.proofs.event.read_event.Statement.{statement}
 use Rattle.snapshot.proofs.event.read_event.Tie as tie
@@ -35,7 +35,7 @@ returns c =
     (λ i. record {
       kind = sym (numberAt-one s at (omega (arith, start .pre))) i;
       sub = sym (numberAt-one s (at + 1) (omega (arith, start .pre))) i;
-      value = signed-told w32 (record { sfits = c .read-i32 .ok }) (c .read-i32 .ensures) i;
+      value = signed-read w32 (record { sfits = c .read-i32 .ok }) (c .read-i32 .ensures) i;
     })
 
 pub read-event-spec : {M : Type 1} → statement M

@@ -1,7 +1,7 @@
 -- `snapshot::settings::read_settings` meets its contract: each number is read at its place, a signed one from its bits.
 use borrow.Author.Needs.{needs}
 use mir.Syntax.{w16, w32}
-use Rattle.snapshot.proofs.Rows.{signed-told}
+use Rattle.word.proofs.TwosComplement.{signed-read}
 use Rattle.snapshot.proofs.settings.read_settings.Statement.{statement}
 use Rattle.snapshot.proofs.settings.read_settings.Tie as tie
 
@@ -67,12 +67,12 @@ returns c =
     let c2 = c3 .before in
     let c1 = c2 .before in
     λ i. record {
-      pfn = signed-told w16 (record { sfits = c1 .read-i16 .ok }) (c1 .read-i16 .ensures) i;
-      mode = signed-told w16 (record { sfits = c2 .read-i162 .ok }) (c2 .read-i162 .ensures) i;
-      hip = signed-told w32 (record { sfits = c3 .read-i32 .ok }) (c3 .read-i32 .ensures) i;
-      lop = signed-told w32 (record { sfits = c4 .read-i322 .ok }) (c4 .read-i322 .ensures) i;
-      ovf = signed-told w32 (record { sfits = c5 .read-i323 .ok }) (c5 .read-i323 .ensures) i;
-      unf = signed-told w32 (record { sfits = c6 .read-i324 .ok }) (c6 .read-i324 .ensures) i;
+      pfn = signed-read w16 (record { sfits = c1 .read-i16 .ok }) (c1 .read-i16 .ensures) i;
+      mode = signed-read w16 (record { sfits = c2 .read-i162 .ok }) (c2 .read-i162 .ensures) i;
+      hip = signed-read w32 (record { sfits = c3 .read-i32 .ok }) (c3 .read-i32 .ensures) i;
+      lop = signed-read w32 (record { sfits = c4 .read-i322 .ok }) (c4 .read-i322 .ensures) i;
+      ovf = signed-read w32 (record { sfits = c5 .read-i323 .ok }) (c5 .read-i323 .ensures) i;
+      unf = signed-read w32 (record { sfits = c6 .read-i324 .ok }) (c6 .read-i324 .ensures) i;
       omb = c7 .read-u16 .ensures i;
       hpo = c8 .read-u162 .ensures i;
       lpo = c .read-u163 .ensures i;

@@ -3,7 +3,8 @@ use borrow.Author.Needs.{needs}
 use denote.Ref.{now}
 use mir.Syntax.{w32}
 use Rattle.word.specs.Layouts.{total}
-use Rattle.snapshot.proofs.Writes.{bits-back, then, end, wrote}
+use Rattle.word.proofs.TwosComplement.{bits-back}
+use Rattle.word.proofs.Writes.{then, end, wrote}
 use Rattle.snapshot.proofs.settings.write_limits.Statement.{statement}
 use Rattle.snapshot.proofs.settings.write_limits.Tie as tie
 
@@ -40,7 +41,9 @@ returns c =
     let first = second .before .before .before .before in
     let start = first .before .before .before in
     wrote (now (start .args .s)) (bits-back w32 (start .fits .hip)) (first .write-i32 .ensures)
-    (then (bits-back w32 (start .fits .lop)) (second .write-i322 .ensures) (then (bits-back w32 (start .fits .ovf)) (third .write-i323 .ensures) (then (bits-back w32 (start .fits .unf)) (fourth .write-i324 .ensures) end)))
+    (then (bits-back w32 (start .fits .lop)) (second .write-i322 .ensures)
+    (then (bits-back w32 (start .fits .ovf)) (third .write-i323 .ensures)
+    (then (bits-back w32 (start .fits .unf)) (fourth .write-i324 .ensures) end)))
     (start .pre)
 
 pub write-limits-spec : {M : Type 1} → statement M

@@ -3,7 +3,8 @@ use borrow.Author.Needs.{needs}
 use denote.Ref.{now}
 use mir.Syntax.{w16}
 use Rattle.word.specs.Layouts.{total}
-use Rattle.snapshot.proofs.Writes.{bits-back, then, end, wrote}
+use Rattle.word.proofs.TwosComplement.{bits-back}
+use Rattle.word.proofs.Writes.{then, end, wrote}
 use Rattle.snapshot.proofs.settings.write_modes.Statement.{statement}
 use Rattle.snapshot.proofs.settings.write_modes.Tie as tie
 

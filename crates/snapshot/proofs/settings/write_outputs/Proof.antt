@@ -3,7 +3,7 @@ use borrow.Author.Needs.{needs}
 use mathlib.Core.Path.{refl}
 use denote.Ref.{now}
 use Rattle.word.specs.Layouts.{total}
-use Rattle.snapshot.proofs.Writes.{then, end, wrote}
+use Rattle.word.proofs.Writes.{then, end, wrote}
 use Rattle.snapshot.proofs.settings.write_outputs.Statement.{statement}
 use Rattle.snapshot.proofs.settings.write_outputs.Tie as tie
 

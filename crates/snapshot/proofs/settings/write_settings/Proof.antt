@@ -9,19 +9,21 @@ use denote.Ref.{now}
 use mir.Syntax.{w16, w32}
 use Rattle.word.specs.Part.{put}
 use Rattle.word.specs.Layouts.{total, pack}
+use Rattle.word.proofs.TwosComplement.{handed, bits-back}
+use Rattle.word.proofs.Writes.{put-rows}
 use Rattle.counter.specs.declared.state.Settings.{Settings}
 use Rattle.counter.specs.WellFormed.{SettingsTyped}
 use Rattle.counter.proofs.Told.{settings-told}
 use Rattle.snapshot.specs.Widths.{settingsLayout}
+use Rattle.snapshot.specs.Places.{hipAt, ombAt}
 use Rattle.snapshot.specs.Snapshots.{settingsRow}
-use Rattle.snapshot.proofs.Writes.{handed, bits-back, put-rows}
 use Rattle.snapshot.proofs.settings.write_settings.Statement.{statement}
 use Rattle.snapshot.proofs.settings.write_settings.Tie as tie
 
 rows : (v : Settings) → SettingsTyped v → (s t u w : List ℕ) (at : ℕ) → at ≤ length s
     → t ≡ put s at (pack (2 ∷ 2 ∷ []) (handed w16 (v .pfn) ∷ handed w16 (v .mode) ∷ []))
-    → u ≡ put t (at + 4) (pack (4 ∷ 4 ∷ 4 ∷ 4 ∷ []) (handed w32 (v .hip) ∷ handed w32 (v .lop) ∷ handed w32 (v .ovf) ∷ handed w32 (v .unf) ∷ []))
-    → w ≡ put u (at + 20) (pack (2 ∷ 2 ∷ 2 ∷ []) (v .omb ∷ v .hpo ∷ v .lpo ∷ []))
+    → u ≡ put t (at + hipAt) (pack (4 ∷ 4 ∷ 4 ∷ 4 ∷ []) (handed w32 (v .hip) ∷ handed w32 (v .lop) ∷ handed w32 (v .ovf) ∷ handed w32 (v .unf) ∷ []))
+    → w ≡ put u (at + ombAt) (pack (2 ∷ 2 ∷ 2 ∷ []) (v .omb ∷ v .hpo ∷ v .lpo ∷ []))
     → w ≡ put s at (pack settingsLayout (settingsRow v))
 unfolding total
 rows v f s t u w at h first second third =

@@ -1,20 +1,19 @@
--- `trace::edition::load` meets its contract: a well-formed snapshot holds a good state, which stands in the bytes that were written.
+-- `trace::edition::load` meets its contract: a well-formed snapshot holds a good state, which stands in the bytes that were copied.
 use borrow.Author.Needs.{needs}
 use mathlib.Core.Path.{_≡_, sym, _∙_, subst}
 use Rattle.word.proofs.Part.{length-part, bytes-part}
 use Rattle.counter.specs.WellFormed.{Good}
 use Rattle.snapshot.specs.Widths.{snapshotSize}
-use Rattle.snapshot.specs.Split.{splitState}
 use Rattle.snapshot.proofs.RoundTrip.{good-decode}
 use Rattle.trace.proofs.Laws.{is-base}
 use Rattle.trace.proofs.edition.load.Statement.{statement}
 use Rattle.trace.proofs.edition.load.Tie as tie
 
-decode-requires : tie.Need-decode-requires
-decode-requires c κs = let start = c .before .before .before in rw (is-base (start .args .ed)) at (start .pre .1 .0)
-
-write-state-requires : tie.Need-write-state-requires
-write-state-requires c κs = let start = c .before .before .before .before .before .before in rw (is-base (start .args .ed)) at (start .pre .0)
+load-state-requires : tie.Need-load-state-requires
+load-state-requires c κs =
+    let start = c .before .before .before .before .before in
+    let sizes = rw (is-base (start .args .ed)) at (start .pre .0) in
+    (rw (is-base (start .args .ed)) at (start .pre .1 .0), sizes .0, sizes .1)
 
 same-length : tie.Need-same-length
 same-length c = search needs
@@ -24,22 +23,23 @@ same-length-2 c = search needs
 
 returns : tie.Need-returns
 returns c =
-    let wrote = c .before .before .before .before in
-    let read = wrote .before .before .before in
-    let known = read .before .before .before in
+    let load = c .before .before .before .before in
+    let known = load .before .before .before .before .before in
     let start = known .before in
     let a = start .args in
     let room = rw (is-base (a .ed)) at (start .pre .1 .0) in
     let bytes = bytes-part (a .image .now) (a .at) snapshotSize (λ i. known .shared-slice-known .given i .fits) in
     let long = length-part (a .image .now) (a .at) snapshotSize room in
-    let good = subst Good (sym (read .decode .ensures)) (good-decode _ bytes long (rw (is-base (a .ed)) at (start .pre .1 .1))) in
-    let held = wrote .write-state .ensures good in
+    let good = good-decode _ bytes long (rw (is-base (a .ed)) at (start .pre .1 .1)) in
     let sizes = rw (is-base (a .ed)) at (start .pre .0) in
     rw (is-base (a .ed)) (
-      held ∙ read .decode .ensures,
-      record { whole = wrote .write-state .kept .1 .0 ∙ sizes .0; aside = wrote .write-state .kept .1 .1 .0 ∙ sizes .1; good = subst Good (sym held) good },
+      load .load-state .ensures,
+      record {
+        whole = load .load-state .kept .1 .1 .0 ∙ sizes .0;
+        aside = load .load-state .kept .1 .1 .1 .0 ∙ sizes .1;
+        good = subst Good (sym (load .load-state .ensures)) good;
+      },
     )
 
 pub load-spec : {M : Type 1} → statement M
-load-spec =
-    tie.close (tie.spec decode-requires write-state-requires same-length same-length-2 returns)
+load-spec = tie.close (tie.spec load-state-requires same-length same-length-2 returns)

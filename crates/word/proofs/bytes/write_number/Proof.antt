@@ -8,7 +8,7 @@ use native.Mathlib.Omega.{arith}
 use lib.ListN.{length, set, length-set}
 use Rattle.word.specs.Part.{put}
 use Rattle.word.specs.LittleEndian.{toBytes}
-use Rattle.word.proofs.Part.{put-put, put-nil, set-put}
+use Rattle.word.proofs.Put.{put-put, put-nil, set-put}
 use Rattle.word.proofs.bytes.write_number.Statement.{statement}
 use Rattle.word.proofs.bytes.write_number.Tie as tie
 
@@ -58,8 +58,11 @@ loop-less c = omega arith
 loop-again : tie.Need-loop-again Inv-loop μ-loop
 loop-again c =
     let l = c .before .loop in
-    let a = c .before .before .args in
-    (omega arith, length-set (l .s) (a .at + l .i) (l .rest % 256) ∙ l .inv .1, next (l .s) (a .at) (a .width) (l .i) (l .rest) (omega arith) (omega arith) ∙ l .inv .2)
+    let a = c .before .before .args in (
+      omega arith,
+      length-set (l .s) (a .at + l .i) (l .rest % 256) ∙ l .inv .1,
+      next (l .s) (a .at) (a .width) (l .i) (l .rest) (omega arith) (omega arith) ∙ l .inv .2,
+    )
 
 same-length : tie.Need-same-length Inv-loop μ-loop
 same-length c = c .before .loop .inv .1

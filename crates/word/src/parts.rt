@@ -1,0 +1,34 @@
+// Parts of a slice: compared with other bytes, and copied over.
+ghost use mathlib.Core.Path.{_≡_};
+ghost use Prim.Native.Nat.{_+_, _≤_};
+ghost use lib.ListN.{length};
+ghost use Rattle.word.specs.Part.{put};
+ghost use Rattle.word.specs.Same.{sameBytes};
+
+// Whether a and b hold the same bytes. It looks at each, so that the compiler compares many at once.
+pub fn same(a: &[u8], b: &[u8]) -> bool
+    ensures { λ r. ⌜ r ≡ sameBytes (now (a .entry)) (now (b .entry)) ⌝ }
+{
+    if a.len() != b.len() {
+        return false;
+    }
+    let mut all = true;
+    let mut i = 0;
+    while i < a.len() {
+        all = all & (a[i] == b[i]);
+        i += 1;
+    }
+    all
+}
+
+// The bytes of src over those of dst from byte at.
+pub fn copy_over(dst: &mut [u8], at: usize, src: &[u8])
+    requires { ⌜ at + length (now src) ≤ length (now dst) ⌝ }
+    ensures { λ _. ⌜ now (dst .exit) ≡ put (now (dst .entry)) at (now (src .entry)) ⌝ }
+{
+    let mut i = 0;
+    while i < src.len() {
+        dst[at + i] = src[i];
+        i += 1;
+    }
+}
