@@ -1,5 +1,5 @@
--- Document 01, "Trace image": event check is refused by 9 alone, step by 9, 5 and 6 in this order, reading by 9 and 6. None is given otherwise. Replay and
--- mending are crate `trace`'s.
+-- Document 01, "Trace image": event check is refused by 9 alone, step by 9, 5 and 6 in this order, reading by 9 and 6, each at place 0. None is
+-- given otherwise. Replay and mending are crate `trace`'s.
 use mathlib.Core.Bool.{cond, not}
 use mathlib.Core.List.{List, [], _∷_}
 use Prim.Native.Nat.{ℕ}
@@ -10,59 +10,61 @@ use Rattle.snapshot.specs.Widths.{snapshotSize, eventSize}
 use Rattle.snapshot.specs.Snapshots.{encode, decode}
 use Rattle.snapshot.specs.FormedBytes.{formed}
 use Rattle.snapshot.specs.EventBytes.{legalEvent, stepEvent}
-use Rattle.trace.specs.Replays.{replayAnswer}
+use Rattle.trace.specs.declared.mending.Span.{Span}
+use Rattle.trace.specs.Refusals.{Answer, refused, given, statusOf, after, changedIf}
+use Rattle.trace.specs.Verdicts.{replayVerdict}
+use Rattle.trace.specs.Replays.{finalSnapshot}
 use Rattle.trace.specs.Mends.{mendAnswer}
-use Rattle.hsc.specs.declared.answer.Answer.{Answer}
-use Rattle.hsc.specs.declared.answer.Answer.the-variants.{Done, IllegalEvent, IllFormed, WrongLength}
-use Rattle.hsc.specs.Status.{number, statusOf, after, statusOfTrace, afterTrace}
 use Rattle.hsc.specs.Fields.{fieldsOf}
 
 -- ---- event check: 9, else 1 for yes or 0 for no
 
 unfoldable pub checkAnswer : List ℕ → ℕ
-checkAnswer event = cond (not (eqb (length event) eventSize)) (number WrongLength) (cond (legalEvent event) 1 0)
+checkAnswer event = cond (not (eqb (length event) eventSize)) 9 (cond (legalEvent event) 1 0)
 
 -- ---- step
 
-unfoldable pub stepVerdict : List ℕ → List ℕ → Answer
+-- 5, then 6, where every length is right
+abbrev pub eventVerdict : List ℕ → List ℕ → Answer Unit
+eventVerdict snapshot event = cond (not (legalEvent event)) (refused 5 0) (cond (not (formed snapshot)) (refused 6 0) (given tt))
+
+unfoldable pub stepVerdict : List ℕ → List ℕ → Answer Unit
 stepVerdict snapshot event =
-    cond (not (eqb (length snapshot) snapshotSize)) WrongLength
-    (cond (not (eqb (length event) eventSize)) WrongLength
-    (cond (not (legalEvent event)) IllegalEvent (cond (not (formed snapshot)) IllFormed Done)))
+    cond (not (eqb (length snapshot) snapshotSize)) (refused 9 0)
+    (cond (not (eqb (length event) eventSize)) (refused 9 0) (eventVerdict snapshot event))
 
 abbrev pub stepAnswer : List ℕ → List ℕ → ℕ
 stepAnswer snapshot event = statusOf (stepVerdict snapshot event)
 
 -- the next snapshot over the lent one
 abbrev pub stepAfter : List ℕ → List ℕ → List ℕ
-stepAfter snapshot event = after (stepVerdict snapshot event) (encode (stepEvent event (decode snapshot))) snapshot
+stepAfter snapshot event = changedIf (stepVerdict snapshot event) snapshot (encode (stepEvent event (decode snapshot)))
 
 -- ---- reading
 
-unfoldable pub readVerdict : List ℕ → Answer
-readVerdict snapshot =
-    cond (not (eqb (length snapshot) snapshotSize)) WrongLength (cond (not (formed snapshot)) IllFormed Done)
+unfoldable pub readVerdict : List ℕ → Answer Unit
+readVerdict snapshot = cond (not (eqb (length snapshot) snapshotSize)) (refused 9 0) (cond (not (formed snapshot)) (refused 6 0) (given tt))
 
 abbrev pub readAnswer : List ℕ → ℕ
 readAnswer snapshot = statusOf (readVerdict snapshot)
 
 abbrev pub readAfter : List ℕ → List ℤ → List ℤ
-readAfter snapshot fields = after (readVerdict snapshot) (fieldsOf (decode snapshot)) fields
+readAfter snapshot fields = changedIf (readVerdict snapshot) fields (fieldsOf (decode snapshot))
 
 -- ---- replay: the image after is `replayImage`
 
 abbrev pub replayStatus : List ℕ → ℕ
-replayStatus image = statusOfTrace (replayAnswer image)
+replayStatus image = statusOf (replayVerdict image)
 
 -- the final state's snapshot
 abbrev pub replayLast : List ℕ → List ℕ → List ℕ
-replayLast image last = afterTrace (replayAnswer image) encode last
+replayLast image last = changedIf (replayVerdict image) last (finalSnapshot image)
 
 -- ---- mending: the image after is `mendImage`
 
 abbrev pub mendStatus : List ℕ → ℕ → List ℕ → ℕ
-mendStatus image first patch = statusOfTrace (mendAnswer image first patch)
+mendStatus image first patch = statusOf (mendAnswer image first patch)
 
 -- s + 1 and the stop
 abbrev pub mendSpan : List ℕ → ℕ → List ℕ → List ℕ → List ℕ
-mendSpan image first patch span = afterTrace (mendAnswer image first patch) (λ (ab : ℕ × ℕ). ab .0 ∷ ab .1 ∷ []) span
+mendSpan image first patch span = after (mendAnswer image first patch) span (λ (s : Span). s .first ∷ s .stop ∷ [])

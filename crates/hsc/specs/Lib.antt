@@ -1,4 +1,3 @@
 -- What each call of the C surface answers, and what every lent buffer holds after.
-pub mod Status
 pub mod Fields
 pub mod Calls

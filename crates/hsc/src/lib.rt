@@ -1,5 +1,4 @@
 // The C surface: what the depot's program calls, with numbers and lent buffers. Document 01, "Trace image", has the refusals.
-mod answer;
 pub mod checking;
 mod filling;
 pub mod mending;

@@ -1,7 +1,8 @@
 // The call that mends an image.
-use crate::answer::status_of_refusal;
 use trace::mending::Mending;
 use trace::mending::mend;
+use trace::refusal::Verdict;
+use trace::refusal::status_of;
 ghost use mathlib.Core.Path.{_≡_};
 ghost use mathlib.Core.List.{[], _∷_};
 ghost use lib.ListN.{length};
@@ -26,9 +27,9 @@ pub extern "C" fn hsc_mend(image: &mut [u8], first: u64, patch: &[u8], span: &mu
     ensures { λ _. ⌜ now (span .exit) ≡ mendSpan (now (image .entry)) first (now (patch .entry)) (now (span .entry)) ⌝ }
 {
     match mend(image, first, patch) {
-        Mending::Refused(r) => status_of_refusal(r),
-        Mending::Mended { first, stop } => {
-            write_span(span, first as u32, stop as u32);
+        Mending::Refused(r) => status_of(Verdict::Refused(r)),
+        Mending::Mended(s) => {
+            write_span(span, s.first as u32, s.stop as u32);
             0
         }
     }

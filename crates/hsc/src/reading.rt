@@ -1,24 +1,26 @@
 // The call that reads a snapshot.
-use crate::answer;
-use crate::answer::Answer;
 use crate::filling::fill;
 use snapshot::SNAPSHOT_SIZE;
 use snapshot::codec::decode;
 use snapshot::form::formed;
+use trace::refusal::Refusal;
+use trace::refusal::Verdict;
+use trace::refusal::status_of;
 ghost use mathlib.Core.Path.{_≡_};
+ghost use Rattle.trace.specs.Refusals.{verdictOf};
 ghost use Rattle.hsc.specs.Calls.{readVerdict, readAnswer, readAfter};
 
 // What a reading comes to.
-fn read_verdict(snapshot: &[u8]) -> Answer
-    ensures { λ r. ⌜ r ≡ readVerdict (now (snapshot .entry)) ⌝ }
+fn read_verdict(snapshot: &[u8]) -> Verdict
+    ensures { λ r. ⌜ verdictOf r ≡ readVerdict (now (snapshot .entry)) ⌝ }
 {
     if snapshot.len() != SNAPSHOT_SIZE {
-        return Answer::WrongLength;
+        return Verdict::Refused(Refusal::Size);
     }
     if !formed(snapshot, 0) {
-        return Answer::IllFormed;
+        return Verdict::Refused(Refusal::Snapshot(0));
     }
-    Answer::Done
+    Verdict::Accepted
 }
 
 // Writes the state and the bits shown but not stored into fields. A refusal leaves them as they were.
@@ -27,7 +29,7 @@ pub extern "C" fn hsc_read(snapshot: &[u8], fields: &mut [i32; 32]) -> u64
     ensures { λ r. ⌜ r ≡ readAnswer (now (snapshot .entry)) ⌝ }
     ensures { λ _. ⌜ now (fields .exit) ≡ readAfter (now (snapshot .entry)) (now (fields .entry)) ⌝ }
 {
-    let status = answer::status_of(read_verdict(snapshot));
+    let status = status_of(read_verdict(snapshot));
     if status == 0 {
         fill(decode(snapshot, 0), fields);
     }

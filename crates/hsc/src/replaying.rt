@@ -1,7 +1,5 @@
 // The call that replays an image.
-use crate::answer::status_of_refusal;
-use snapshot::codec::encode;
-use trace::refusal::Verdict;
+use trace::refusal::status_of;
 use trace::replaying::replay;
 ghost use mathlib.Core.Path.{_≡_};
 ghost use Rattle.trace.specs.Replays.{replayImage};
@@ -14,13 +12,5 @@ pub extern "C" fn hsc_replay(image: &mut [u8], last: &mut [u8; 68]) -> u64
     ensures { λ _. ⌜ now (image .exit) ≡ replayImage (now (image .entry)) ⌝ }
     ensures { λ _. ⌜ now (last .exit) ≡ replayLast (now (image .entry)) (now (last .entry)) ⌝ }
 {
-    let replayed = replay(image);
-    let verdict = replayed.verdict;
-    match verdict {
-        Verdict::Refused(r) => status_of_refusal(r),
-        Verdict::Accepted => {
-            encode(replayed.last, last, 0);
-            0
-        }
-    }
+    status_of(replay(image, last))
 }

@@ -1,15 +1,16 @@
 // The call that steps a snapshot by one event.
-use crate::answer;
-use crate::answer::Answer;
 use snapshot::EVENT_SIZE;
 use snapshot::MOVING_SIZE;
 use snapshot::SNAPSHOT_SIZE;
-use snapshot::codec::decode;
 use snapshot::event::legal_event;
 use snapshot::form::formed;
+use snapshot::split::load_moving;
 use snapshot::split::write_over;
-use snapshot::split::write_state;
+use trace::edition::Edition;
 use trace::events::advance;
+use trace::refusal::Refusal;
+use trace::refusal::Verdict;
+use trace::refusal::status_of;
 ghost use mathlib.Core.Path.{_≡_};
 ghost use mathlib.Core.Bool.{true};
 ghost use lib.ListN.{length};
@@ -17,19 +18,34 @@ ghost use Rattle.snapshot.specs.Widths.{snapshotSize, eventSize};
 ghost use Rattle.snapshot.specs.Snapshots.{encode, decode};
 ghost use Rattle.snapshot.specs.FormedBytes.{formed};
 ghost use Rattle.snapshot.specs.EventBytes.{stepEvent};
-ghost use Rattle.hsc.specs.Calls.{stepVerdict, stepAnswer, stepAfter};
+ghost use Rattle.trace.specs.Refusals.{verdictOf};
+ghost use Rattle.hsc.specs.Calls.{eventVerdict, stepVerdict, stepAnswer, stepAfter};
+
+// Refusals 5 and 6, where every length is right.
+fn event_verdict(snapshot: &[u8], event: &[u8]) -> Verdict
+    requires { ⌜ (length (now snapshot) ≡ snapshotSize) × (length (now event) ≡ eventSize) ⌝ }
+    ensures { λ r. ⌜ verdictOf r ≡ eventVerdict (now (snapshot .entry)) (now (event .entry)) ⌝ }
+{
+    if !legal_event(event, 0) {
+        return Verdict::Refused(Refusal::Event(0));
+    }
+    if !formed(snapshot, 0) {
+        return Verdict::Refused(Refusal::Snapshot(0));
+    }
+    Verdict::Accepted
+}
 
 // What a step comes to.
-fn step_verdict(snapshot: &[u8], event: &[u8]) -> Answer
-    ensures { λ r. ⌜ r ≡ stepVerdict (now (snapshot .entry)) (now (event .entry)) ⌝ }
+fn step_verdict(snapshot: &[u8], event: &[u8]) -> Verdict
+    ensures { λ r. ⌜ verdictOf r ≡ stepVerdict (now (snapshot .entry)) (now (event .entry)) ⌝ }
 {
     if snapshot.len() != SNAPSHOT_SIZE {
-        return Answer::WrongLength;
+        return Verdict::Refused(Refusal::Size);
     }
     if event.len() != EVENT_SIZE {
-        return Answer::WrongLength;
+        return Verdict::Refused(Refusal::Size);
     }
-    answer::verdict(legal_event(event, 0), formed(snapshot, 0))
+    event_verdict(snapshot, event)
 }
 
 // Writes the next snapshot over this one: a row of one event.
@@ -39,9 +55,8 @@ fn step_over(snapshot: &mut [u8], event: &[u8])
     ensures { λ _. ⌜ now (snapshot .exit) ≡ encode (stepEvent (now (event .entry)) (decode (now (snapshot .entry)))) ⌝ }
 {
     let mut moving = [0u8; MOVING_SIZE];
-    let state = decode(snapshot, 0);
-    write_state(state, snapshot, &mut moving);
-    advance(event, snapshot, &mut moving, 0, 1);
+    load_moving(snapshot, &mut moving);
+    advance(Edition::Base, event, 0, 1, snapshot, &mut moving);
     write_over(snapshot, 0, &moving);
 }
 
@@ -51,7 +66,7 @@ pub extern "C" fn hsc_step(snapshot: &mut [u8], event: &[u8]) -> u64
     ensures { λ r. ⌜ r ≡ stepAnswer (now (snapshot .entry)) (now (event .entry)) ⌝ }
     ensures { λ _. ⌜ now (snapshot .exit) ≡ stepAfter (now (snapshot .entry)) (now (event .entry)) ⌝ }
 {
-    let status = answer::status_of(step_verdict(snapshot, event));
+    let status = status_of(step_verdict(snapshot, event));
     if status == 0 {
         step_over(snapshot, event);
     }

@@ -1,6 +1,6 @@
 // The refusals of document 01's table, and the verdict on what was lent.
 ghost use mathlib.Core.Path.{_≡_};
-ghost use Rattle.trace.specs.Refusals.{numberOf, placeOf};
+ghost use Rattle.trace.specs.Refusals.{numberOf, placeOf, verdictOf, statusOf, Placed};
 
 // Each refusal in the table's order; a place stands with those that have one.
 pub enum Refusal {
@@ -50,5 +50,17 @@ pub fn place_of(refusal: Refusal) -> u64
         Refusal::Patch => 0,
         Refusal::PatchEvent(i) => i as u64,
         Refusal::Size => 0,
+    }
+}
+
+// The number that C is given for a verdict: 0 where nothing is refused, else the refusal's number in the low 32 bits and its place in
+// the high 32.
+pub fn status_of(verdict: Verdict) -> u64
+    requires { ⌜ Placed (verdictOf verdict) ⌝ }
+    ensures { λ r. ⌜ r ≡ statusOf (verdictOf verdict) ⌝ }
+{
+    match verdict {
+        Verdict::Refused(r) => number_of(r) + place_of(r) * 4294967296,
+        Verdict::Accepted => 0,
     }
 }

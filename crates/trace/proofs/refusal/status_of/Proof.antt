@@ -1,0 +1,68 @@
+-- `trace::refusal::status_of` meets its contract: number and place fit their halves.
+use borrow.Author.Needs.{needs}
+use mathlib.Core.Path.{_≡_, sym, ap, subst, _∙_}
+use Prim.Native.Nat.{_+_, _*_, _^_, _≤_, _<_}
+use native.Mathlib.Omega.{arith}
+use Rattle.trace.specs.declared.refusal.Refusal.{Refusal}
+use Rattle.trace.specs.declared.refusal.Refusal.the-variants.{Short, Limits, Offsets, Length, Event, Snapshot, Patch, PatchEvent, Size}
+use Rattle.trace.specs.declared.refusal.Verdict.{Verdict}
+use Rattle.trace.specs.Refusals.{numberOf, placeOf, verdictOf, statusOf, Placed}
+use Rattle.trace.proofs.refusal.status_of.Statement.{statement}
+use Rattle.trace.proofs.refusal.status_of.Tie as tie
+
+number-few : (r : Refusal) → numberOf r ≤ 9
+number-few Short = omega arith
+number-few Limits = omega arith
+number-few Offsets = omega arith
+number-few Length = omega arith
+number-few (Event i) = omega arith
+number-few (Snapshot j) = omega arith
+number-few Patch = omega arith
+number-few (PatchEvent i) = omega arith
+number-few Size = omega arith
+
+-- the refusal that the match found
+module _ (c : tie.After-known-told) where
+  place-few : placeOf (c .before .verdict .given .0 .0) < 2 ^ 32
+  place-few = subst (λ (v : Verdict). Placed (verdictOf v)) (c .before .verdict .given .1) (c .before .before .before .pre)
+
+enum-known-verdict : tie.Need-enum-known-verdict
+enum-known-verdict c = search needs
+
+number-of-requires : tie.Need-number-of-requires
+number-of-requires c κs = search needs
+
+place-of-requires : tie.Need-place-of-requires
+place-of-requires c κs = search needs
+
+mul-result : tie.Need-mul-result
+mul-result c = omega (arith, c .place-of .ensures, place-few (c .before .before))
+
+add-result : tie.Need-add-result
+add-result c =
+    let told = c .before .before in
+    omega (arith, c .place-of .ensures, place-few told, c .before .number-of .ensures, number-few (told .before .verdict .given .0 .0))
+
+enum-told : tie.Need-enum-told
+enum-told c = search needs
+
+returns : tie.Need-returns
+returns c =
+    let told = c .before .before in
+    (λ i. c .before .number-of .ensures i + c .place-of .ensures i * 2 ^ 32) ∙ sym (ap (λ (v : Verdict). statusOf (verdictOf v)) (told .before .verdict .given .1))
+
+returns-2 : tie.Need-returns-2
+returns-2 c = search needs
+
+pub status-of-spec : {M : Type 1} → statement M
+status-of-spec =
+    tie.close
+    (tie.spec
+    enum-known-verdict
+    number-of-requires
+    place-of-requires
+    mul-result
+    add-result
+    enum-told
+    returns
+    returns-2)
