@@ -2,11 +2,11 @@
 use mathlib.Core.Path.{_≡_}
 use Prim.Native.Nat.{ℕ, _/_, _%_, _^_, _<_}
 use native.Mathlib.Omega.{arith}
-use Rattle.hsc.specs.Status.{status}
+use Rattle.trace.specs.Refusals.{Answer, refused, statusOf}
 
 module _ (number place : ℕ) (h : number < 2 ^ 32) where
-  pub status-number : status number place % 2 ^ 32 ≡ number
+  pub status-number : statusOf {A = Unit} (refused number place) % 2 ^ 32 ≡ number
   status-number = omega arith
 
-  pub status-place : status number place / 2 ^ 32 ≡ place
+  pub status-place : statusOf {A = Unit} (refused number place) / 2 ^ 32 ≡ place
   status-place = omega arith

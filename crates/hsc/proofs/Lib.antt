@@ -4,4 +4,3 @@ mod Widened
 mod Whole
 mod Rows
 mod Done
-mod Traced

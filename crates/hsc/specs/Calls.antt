@@ -13,7 +13,6 @@ use Rattle.snapshot.specs.EventBytes.{legalEvent, stepEvent}
 use Rattle.trace.specs.declared.mending.Span.{Span}
 use Rattle.trace.specs.Refusals.{Answer, refused, given, statusOf, after, changedIf}
 use Rattle.trace.specs.Verdicts.{replayVerdict}
-use Rattle.trace.specs.Replays.{finalSnapshot}
 use Rattle.trace.specs.Mends.{mendAnswer}
 use Rattle.hsc.specs.Fields.{fieldsOf}
 
@@ -51,14 +50,10 @@ readAnswer snapshot = statusOf (readVerdict snapshot)
 abbrev pub readAfter : List ℕ → List ℤ → List ℤ
 readAfter snapshot fields = changedIf (readVerdict snapshot) fields (fieldsOf (decode snapshot))
 
--- ---- replay: the image after is `replayImage`
+-- ---- replay: the image after is `replayImage`, the lent snapshot `replayLast`
 
 abbrev pub replayStatus : List ℕ → ℕ
 replayStatus image = statusOf (replayVerdict image)
-
--- the final state's snapshot
-abbrev pub replayLast : List ℕ → List ℕ → List ℕ
-replayLast image last = changedIf (replayVerdict image) last (finalSnapshot image)
 
 -- ---- mending: the image after is `mendImage`
 

@@ -38,5 +38,3 @@ shownFields c =
 -- 0-8 staged, 9-17 active, 18-25 the rest of the state, 26-31 the bits shown
 unfoldable pub fieldsOf : Counter → List ℤ
 fieldsOf c = settingsFields (c .staged) ++ settingsFields (c .active) ++ storedFields c ++ shownFields c
-
--- ---- filling

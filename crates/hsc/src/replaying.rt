@@ -2,8 +2,8 @@
 use trace::refusal::status_of;
 use trace::replaying::replay;
 ghost use mathlib.Core.Path.{_≡_};
-ghost use Rattle.trace.specs.Replays.{replayImage};
-ghost use Rattle.hsc.specs.Calls.{replayStatus, replayLast};
+ghost use Rattle.trace.specs.Replays.{replayImage, replayLast};
+ghost use Rattle.hsc.specs.Calls.{replayStatus};
 
 // Writes every snapshot anew, and the final state's into last. A refusal leaves both as they were.
 #[no_mangle]

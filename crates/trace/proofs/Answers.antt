@@ -3,12 +3,13 @@
 use mathlib.Core.Path.{_≡_, refl, sym, ap, _∙_}
 use mathlib.Core.Bool.{Bool, true, false, cond, not, _||_, false≢true}
 use mathlib.Core.List.{List}
-use Prim.Native.Nat.{ℕ}
+use Prim.Native.Nat.{ℕ, _≤_}
 use native.Mathlib.Omega.{arith}
 use Rattle.trace.specs.declared.refusal.Refusal.{Refusal}
+use Rattle.trace.specs.declared.refusal.Refusal.the-variants.{Short, Limits, Offsets, Length, Event, Snapshot, Patch, PatchEvent, Size}
 use Rattle.trace.specs.declared.refusal.Verdict.{Verdict}
 use Rattle.trace.specs.declared.refusal.Verdict.the-variants.{Refused, Accepted}
-use Rattle.trace.specs.Refusals.{Answer, refused, given, refusal, verdictOf, _andThen_, changedIf}
+use Rattle.trace.specs.Refusals.{Answer, refused, given, numberOf, refusal, verdictOf, statusOf, Placed, _andThen_, changedIf}
 
 -- ---- tests in a row
 
@@ -72,3 +73,30 @@ module _ (v : Verdict) (a : Answer Unit) (answered : verdictOf v ≡ a) where
 
     pub accepted-changed : {A : Type 0} (old : List A) {new after : List A} → after ≡ new → after ≡ changedIf a old new
     accepted-changed {A} old {new} h = h ∙ sym (ap (λ (t : Answer Unit). changedIf t old new) accepted-answer)
+
+-- ---- the status that C is given
+
+pub number-range : (r : Refusal) → (1 ≤ numberOf r) × (numberOf r ≤ 9)
+number-range Short = (omega arith, omega arith)
+number-range Limits = (omega arith, omega arith)
+number-range Offsets = (omega arith, omega arith)
+number-range Length = (omega arith, omega arith)
+number-range (Event i) = (omega arith, omega arith)
+number-range (Snapshot j) = (omega arith, omega arith)
+number-range Patch = (omega arith, omega arith)
+number-range (PatchEvent i) = (omega arith, omega arith)
+number-range Size = (omega arith, omega arith)
+
+-- status 0 is given where nothing is refused, and only there
+pub status-done : (v : Verdict) → statusOf (verdictOf v) ≡ 0 → verdictOf v ≡ given tt
+status-done (Refused r) e = absurd (omega (arith, number-range r .0))
+status-done Accepted e = refl
+
+pub status-kept : {A : Type 0} (a : Answer Unit) (old new : List A) → (statusOf a ≡ 0 → ⊥) → old ≡ changedIf a old new
+status-kept (refused n p) old new h = refl
+status-kept (given tt) old new h = absurd (h refl)
+
+-- a test that refuses at place 0 leaves a place that fits
+pub placed-test : (t : Bool) (n : ℕ) (rest : Answer Unit) → Placed rest → Placed (cond t (refused n 0) rest)
+placed-test true n rest h = omega arith
+placed-test false n rest h = h

@@ -20,14 +20,17 @@ unfolding readVerdict
 returns-2 c =
     let asked = c .before in
     let sized = asked .before in
-    rw (eq-eqb _ _ (sized .if1 .left), told-whole formed (now (sized .before .before .args .snapshot)) (sized .if1 .left) (asked .formed .ensures) (not-true _ (c .if2 .taken)))
+    let snapshot = now (sized .before .before .args .snapshot) in
+    rw (eq-eqb _ _ (sized .if1 .left), told-whole formed snapshot (sized .if1 .left) (asked .formed .ensures) (not-true _ (c .if2 .taken)))
 
 returns-3 : tie.Need-returns-3
 unfolding readVerdict
 returns-3 c =
     let asked = c .before in
     let sized = asked .before in
-    rw (eq-eqb _ _ (sized .if1 .left), told-whole formed (now (sized .before .before .args .snapshot)) (sized .if1 .left) (asked .formed .ensures) (not-false _ (c .if2 .left)))
+    let snapshot = now (sized .before .before .args .snapshot) in
+    rw (eq-eqb _ _ (sized .if1 .left), told-whole formed snapshot (sized .if1 .left) (asked .formed .ensures) (not-false _ (c .if2 .left)))
 
 pub read-verdict-spec : {M : Type 1} → statement M
-read-verdict-spec = tie.close (tie.spec returns formed-requires returns-2 returns-3)
+read-verdict-spec =
+    tie.close (tie.spec returns formed-requires returns-2 returns-3)

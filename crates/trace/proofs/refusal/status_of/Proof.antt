@@ -1,25 +1,13 @@
 -- `trace::refusal::status_of` meets its contract: number and place fit their halves.
 use borrow.Author.Needs.{needs}
 use mathlib.Core.Path.{_≡_, sym, ap, subst, _∙_}
-use Prim.Native.Nat.{_+_, _*_, _^_, _≤_, _<_}
+use Prim.Native.Nat.{_+_, _*_, _^_, _<_}
 use native.Mathlib.Omega.{arith}
-use Rattle.trace.specs.declared.refusal.Refusal.{Refusal}
-use Rattle.trace.specs.declared.refusal.Refusal.the-variants.{Short, Limits, Offsets, Length, Event, Snapshot, Patch, PatchEvent, Size}
 use Rattle.trace.specs.declared.refusal.Verdict.{Verdict}
-use Rattle.trace.specs.Refusals.{numberOf, placeOf, verdictOf, statusOf, Placed}
+use Rattle.trace.specs.Refusals.{placeOf, verdictOf, statusOf, Placed}
+use Rattle.trace.proofs.Answers.{number-range}
 use Rattle.trace.proofs.refusal.status_of.Statement.{statement}
 use Rattle.trace.proofs.refusal.status_of.Tie as tie
-
-number-few : (r : Refusal) → numberOf r ≤ 9
-number-few Short = omega arith
-number-few Limits = omega arith
-number-few Offsets = omega arith
-number-few Length = omega arith
-number-few (Event i) = omega arith
-number-few (Snapshot j) = omega arith
-number-few Patch = omega arith
-number-few (PatchEvent i) = omega arith
-number-few Size = omega arith
 
 -- the refusal that the match found
 module _ (c : tie.After-known-told) where
@@ -41,7 +29,7 @@ mul-result c = omega (arith, c .place-of .ensures, place-few (c .before .before)
 add-result : tie.Need-add-result
 add-result c =
     let told = c .before .before in
-    omega (arith, c .place-of .ensures, place-few told, c .before .number-of .ensures, number-few (told .before .verdict .given .0 .0))
+    omega (arith, c .place-of .ensures, place-few told, c .before .number-of .ensures, number-range (told .before .verdict .given .0 .0) .1)
 
 enum-told : tie.Need-enum-told
 enum-told c = search needs
