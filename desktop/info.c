@@ -64,10 +64,10 @@ static enum outcome print_info(const struct image *image)
     return DONE;
 }
 
-enum outcome command_info(char *const *operands)
+enum outcome command_info(const struct request *request)
 {
     struct image image;
-    enum outcome outcome = image_load(&image, operands[0], O_RDONLY);
+    enum outcome outcome = image_load(&image, request->operands[0], O_RDONLY);
 
     if (outcome != DONE)
         return outcome;

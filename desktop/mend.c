@@ -61,19 +61,19 @@ static enum outcome mend(const struct image *image, uint64_t first, const struct
     return outcome;
 }
 
-enum outcome command_mend(char *const *operands)
+enum outcome command_mend(const struct request *request)
 {
     struct image image;
     struct patch patch;
     uint64_t first;
-    enum outcome outcome = number_parse(operands[1], &first);
+    enum outcome outcome = number_parse(request->operands[1], &first);
 
     if (outcome != DONE)
         return outcome;
-    outcome = load_patch(&patch, operands[2]);
+    outcome = load_patch(&patch, request->operands[2]);
     if (outcome != DONE)
         return outcome;
-    outcome = image_load(&image, operands[0], O_RDWR);
+    outcome = image_load(&image, request->operands[0], O_RDWR);
     if (outcome == DONE) {
         outcome = mend(&image, first, &patch);
         image_free(&image);

@@ -33,10 +33,10 @@ static enum outcome replay(const struct image *image)
     return outcome == DONE ? print_state(image, last) : outcome;
 }
 
-enum outcome command_replay(char *const *operands)
+enum outcome command_replay(const struct request *request)
 {
     struct image image;
-    enum outcome outcome = image_load(&image, operands[0], O_RDWR);
+    enum outcome outcome = image_load(&image, request->operands[0], O_RDWR);
 
     if (outcome != DONE)
         return outcome;

@@ -104,21 +104,21 @@ static enum outcome show(const struct image *image, uint32_t j)
     return DONE;
 }
 
-enum outcome command_show(char *const *operands)
+enum outcome command_show(const struct request *request)
 {
     struct image image;
     uint64_t j;
-    enum outcome outcome = number_parse(operands[1], &j);
+    enum outcome outcome = number_parse(request->operands[1], &j);
 
     if (outcome != DONE)
         return outcome;
-    outcome = image_load(&image, operands[0], O_RDONLY);
+    outcome = image_load(&image, request->operands[0], O_RDONLY);
     if (outcome != DONE)
         return outcome;
     if (j < image.snapshots)
         outcome = show(&image, (uint32_t)j);
     else
-        outcome = tell_failure(operands[1], "the image has no snapshot of this index");
+        outcome = tell_failure(request->operands[1], "the image has no snapshot of this index");
     image_free(&image);
     return outcome;
 }

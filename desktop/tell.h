@@ -8,7 +8,8 @@
 enum outcome {
     DONE = 0,
     REFUSED = 1,
-    FAILED = 2
+    FAILED = 2,
+    NOT_TRUE = 3
 };
 
 /* Tells in words why something failed, and answers FAILED. */
