@@ -1,20 +1,28 @@
 /* hsc info: an image's header, its events by kind, and its gaps: runs of blank events. */
 #include "command.h"
+#include "event.h"
 #include "hsc.h"
 #include "image.h"
+#include "words.h"
 
 #include <fcntl.h>
 #include <inttypes.h>
+#include <stdbool.h>
 #include <stdio.h>
 
-static const char *const KIND_NAMES[HSC_KIND_COUNT] = {
-    "blank",    "input sample", "staged write", "programming device", "flag write",
-    "ACC",      "preset load",  "routine done", "enter run",          "outputs",
+/* So many gaps are printed where not all are asked for. */
+#define FIRST_GAPS 5
+
+/* Runs of blank events. */
+struct gaps {
+    uint32_t count;
+    uint32_t longest;    /* events */
+    uint32_t longest_at; /* the place of the first such gap */
 };
 
 static uint8_t kind_at(const struct image *image, uint32_t place)
 {
-    return image_event(image, place)[0];
+    return event_kind(image_event(image, place));
 }
 
 /* Counts legal events by kind; the first illegal one is refused. */
@@ -36,18 +44,45 @@ static uint32_t next_place(const struct image *image, uint32_t place, int blank)
     return place;
 }
 
-static void print_gaps(const struct image *image)
+static void print_gap(uint32_t start, uint32_t size)
 {
+    printf("gap: events %" PRIu32 " to %" PRIu32 ", %" PRIu32 " blank\n", start, start + size - 1, size);
+}
+
+/* Counts the gaps, and prints the first of them, at most so many. */
+static struct gaps print_first_gaps(const struct image *image, uint32_t most)
+{
+    struct gaps gaps = {0, 0, 0};
     uint32_t start = next_place(image, 0, 1);
 
     while (start < image->events) {
         uint32_t end = next_place(image, start, 0);
-        printf("gap: events %" PRIu32 " to %" PRIu32 ", %" PRIu32 " blank\n", start, end - 1, end - start);
+
+        if (gaps.count < most)
+            print_gap(start, end - start);
+        if (end - start > gaps.longest) {
+            gaps.longest = end - start;
+            gaps.longest_at = start;
+        }
+        gaps.count++;
         start = next_place(image, end, 1);
     }
+    return gaps;
 }
 
-static enum outcome print_info(const struct image *image)
+static void print_gaps(const struct image *image, bool all)
+{
+    struct gaps gaps = print_first_gaps(image, all ? UINT32_MAX : FIRST_GAPS);
+
+    if (!all && gaps.count > FIRST_GAPS)
+        printf("%" PRIu32 " more, with --gaps\n", gaps.count - FIRST_GAPS);
+    printf("gaps %" PRIu32, gaps.count);
+    if (gaps.count > 0)
+        printf(", the longest from %" PRIu32 ", %" PRIu32 " blank", gaps.longest_at, gaps.longest);
+    printf("\n");
+}
+
+static enum outcome print_info(const struct image *image, bool all_gaps)
 {
     uint32_t counts[HSC_KIND_COUNT] = {0};
     enum outcome outcome = count_kinds(image, counts);
@@ -60,7 +95,7 @@ static enum outcome print_info(const struct image *image)
     printf("spacing %" PRIu32 "\n", image->spacing);
     for (int kind = 0; kind < HSC_KIND_COUNT; kind++)
         printf("kind %d, %s: %" PRIu32 "\n", kind, KIND_NAMES[kind], counts[kind]);
-    print_gaps(image);
+    print_gaps(image, all_gaps);
     return DONE;
 }
 
@@ -71,7 +106,7 @@ enum outcome command_info(const struct request *request)
 
     if (outcome != DONE)
         return outcome;
-    outcome = print_info(&image);
+    outcome = print_info(&image, request_has(request, OPTION_GAPS));
     image_free(&image);
     return outcome;
 }
