@@ -3,7 +3,6 @@
 #include "image.h"
 #include "table.h"
 
-#include <fcntl.h>
 #include <inttypes.h>
 #include <stdio.h>
 
@@ -27,7 +26,7 @@ static enum outcome check(const struct image *image)
 enum outcome command_check(const struct request *request)
 {
     struct image image;
-    enum outcome outcome = image_load(&image, request->operands[0], O_RDONLY);
+    enum outcome outcome = image_load(&image, request->operands[0]);
 
     if (outcome != DONE)
         return outcome;

@@ -3,7 +3,6 @@
 #include "hsc.h"
 #include "image.h"
 
-#include <fcntl.h>
 #include <inttypes.h>
 #include <stdio.h>
 
@@ -67,7 +66,7 @@ static enum outcome print_info(const struct image *image)
 enum outcome command_info(const struct request *request)
 {
     struct image image;
-    enum outcome outcome = image_load(&image, request->operands[0], O_RDONLY);
+    enum outcome outcome = image_load(&image, request->operands[0]);
 
     if (outcome != DONE)
         return outcome;
