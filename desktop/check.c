@@ -5,7 +5,6 @@
 #include "layout.h"
 #include "table.h"
 
-#include <fcntl.h>
 #include <inttypes.h>
 #include <stdbool.h>
 #include <stdio.h>
@@ -43,7 +42,7 @@ static enum outcome check(const struct image *image, bool named)
 static enum outcome check_file(const char *path, bool named)
 {
     struct image image;
-    enum outcome outcome = image_load(&image, path, O_RDONLY);
+    enum outcome outcome = image_load(&image, path);
 
     if (outcome != DONE)
         return outcome;

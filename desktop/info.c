@@ -5,7 +5,6 @@
 #include "image.h"
 #include "words.h"
 
-#include <fcntl.h>
 #include <inttypes.h>
 #include <stdbool.h>
 #include <stdio.h>
@@ -102,7 +101,7 @@ static enum outcome print_info(const struct image *image, bool all_gaps)
 enum outcome command_info(const struct request *request)
 {
     struct image image;
-    enum outcome outcome = image_load(&image, request->operands[0], O_RDONLY);
+    enum outcome outcome = image_load(&image, request->operands[0]);
 
     if (outcome != DONE)
         return outcome;

@@ -1,9 +1,9 @@
 /* hsc replay: every snapshot written anew, and one line about the final state. */
 #include "command.h"
+#include "edit.h"
 #include "hsc.h"
-#include "image.h"
+#include "table.h"
 
-#include <fcntl.h>
 #include <inttypes.h>
 #include <stdio.h>
 
@@ -21,26 +21,41 @@ static enum outcome print_state(const struct image *image, const uint8_t last[HS
     return DONE;
 }
 
-static enum outcome replay(const struct image *image)
+static void print_table(const struct edit *edit, const struct comparison *comparison)
 {
-    uint8_t last[HSC_SNAPSHOT_SIZE];
-    uint64_t status = hsc_replay(image->bytes, image->size, last);
-    enum outcome outcome;
+    if (comparison->different == 0) {
+        printf("the table was true%s\n", edit->other ? "" : ": the file is left as it is");
+        return;
+    }
+    printf("the table was not true: ");
+    table_print_difference(stdout, &edit->image, comparison);
+    printf("\n");
+}
 
-    if (status != 0)
-        return tell_refusal(image->path, status);
-    outcome = image_write(image);
-    return outcome == DONE ? print_state(image, last) : outcome;
+/* A file whose table is true is left alone; another one is written whatever the table was. */
+static enum outcome replay(const struct edit *edit)
+{
+    struct comparison comparison;
+    enum outcome outcome = table_replay(&edit->image, &comparison);
+
+    if (outcome == DONE && (edit->other || comparison.different > 0))
+        outcome = edit_write(edit);
+    if (outcome == DONE)
+        outcome = print_state(&edit->image, comparison.last);
+    if (outcome != DONE)
+        return outcome;
+    print_table(edit, &comparison);
+    return edit_tell(edit);
 }
 
 enum outcome command_replay(const struct request *request)
 {
-    struct image image;
-    enum outcome outcome = image_load(&image, request->operands[0], O_RDWR);
+    struct edit edit;
+    enum outcome outcome = edit_open(&edit, request);
 
     if (outcome != DONE)
         return outcome;
-    outcome = replay(&image);
-    image_free(&image);
+    outcome = replay(&edit);
+    edit_close(&edit);
     return outcome;
 }

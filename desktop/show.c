@@ -5,7 +5,6 @@
 #include "image.h"
 #include "number.h"
 
-#include <fcntl.h>
 #include <inttypes.h>
 #include <stdio.h>
 
@@ -31,13 +30,13 @@ enum outcome command_show(const struct request *request)
 
     if (outcome != DONE)
         return outcome;
-    outcome = image_load(&image, request->operands[0], O_RDONLY);
+    outcome = image_load(&image, request->operands[0]);
     if (outcome != DONE)
         return outcome;
     if (j < image.snapshots)
         outcome = show(&image, (uint32_t)j);
     else
-        outcome = tell_failure(request->operands[1], "the image has no snapshot of this index");
+        outcome = tell_no_such(image.path, "snapshot", j, image.snapshots);
     image_free(&image);
     return outcome;
 }
