@@ -12,11 +12,10 @@
 /* So many gaps are printed where not all are asked for. */
 #define FIRST_GAPS 5
 
-/* Runs of blank events. */
-struct gaps {
-    uint32_t count;
-    uint32_t longest;    /* events */
-    uint32_t longest_at; /* the place of the first such gap */
+/* A run of blank events, from one place to before another. */
+struct gap {
+    uint32_t start;
+    uint32_t end;
 };
 
 static uint8_t kind_at(const struct image *image, uint32_t place)
@@ -43,42 +42,57 @@ static uint32_t next_place(const struct image *image, uint32_t place, int blank)
     return place;
 }
 
-static void print_gap(uint32_t start, uint32_t size)
+/* Moves on to the next gap; at first the gap ends at 0. False where there is none. */
+static bool next_gap(const struct image *image, struct gap *gap)
 {
-    printf("gap: events %" PRIu32 " to %" PRIu32 ", %" PRIu32 " blank\n", start, start + size - 1, size);
+    gap->start = next_place(image, gap->end, 1);
+    gap->end = next_place(image, gap->start, 0);
+    return gap->start < image->events;
 }
 
-/* Counts the gaps, and prints the first of them, at most so many. */
-static struct gaps print_first_gaps(const struct image *image, uint32_t most)
+static void print_gap(const struct gap *gap)
 {
-    struct gaps gaps = {0, 0, 0};
-    uint32_t start = next_place(image, 0, 1);
+    printf("events %" PRIu32 " to %" PRIu32 ", %" PRIu32 " blank\n", gap->start, gap->end - 1, gap->end - gap->start);
+}
 
-    while (start < image->events) {
-        uint32_t end = next_place(image, start, 0);
+/* How many gaps there are, and the first of the longest. */
+static uint32_t count_gaps(const struct image *image, struct gap *longest)
+{
+    struct gap gap = {0, 0};
+    uint32_t count = 0;
 
-        if (gaps.count < most)
-            print_gap(start, end - start);
-        if (end - start > gaps.longest) {
-            gaps.longest = end - start;
-            gaps.longest_at = start;
-        }
-        gaps.count++;
-        start = next_place(image, end, 1);
+    *longest = gap;
+    while (next_gap(image, &gap)) {
+        if (gap.end - gap.start > longest->end - longest->start)
+            *longest = gap;
+        count++;
     }
-    return gaps;
+    return count;
+}
+
+static void print_first_gaps(const struct image *image, uint32_t most)
+{
+    struct gap gap = {0, 0};
+
+    while (most-- > 0 && next_gap(image, &gap)) {
+        printf("gap: ");
+        print_gap(&gap);
+    }
 }
 
 static void print_gaps(const struct image *image, bool all)
 {
-    struct gaps gaps = print_first_gaps(image, all ? UINT32_MAX : FIRST_GAPS);
+    struct gap longest;
+    uint32_t count = count_gaps(image, &longest);
 
-    if (!all && gaps.count > FIRST_GAPS)
-        printf("%" PRIu32 " more, with --gaps\n", gaps.count - FIRST_GAPS);
-    printf("gaps %" PRIu32, gaps.count);
-    if (gaps.count > 0)
-        printf(", the longest from %" PRIu32 ", %" PRIu32 " blank", gaps.longest_at, gaps.longest);
-    printf("\n");
+    printf("gaps: %" PRIu32 "\n", count);
+    if (count == 0)
+        return;
+    printf("longest gap: ");
+    print_gap(&longest);
+    print_first_gaps(image, all ? count : FIRST_GAPS);
+    if (!all && count > FIRST_GAPS)
+        printf("and %" PRIu32 " more gaps, which --gaps prints\n", count - FIRST_GAPS);
 }
 
 static enum outcome print_info(const struct image *image, bool all_gaps)

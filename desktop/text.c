@@ -2,43 +2,33 @@
 #include "text.h"
 
 #include "cursor.h"
-#include "hsc.h"
 #include "line.h"
 
 #include <inttypes.h>
-#include <stdbool.h>
 #include <stdio.h>
 #include <stdlib.h>
 #include <string.h>
 
 /* Some programs begin every text with this mark of UTF-8. */
-static const char MARK[] = "\xef\xbb\xbf";
-
-/* How far the text is read. */
-struct reading {
-    struct row row;
-    bool placed; /* a line before this one named its place */
-    int64_t start;     /* the place of the first event, then */
-};
+#define MARK "\xef\xbb\xbf"
 
 /* The places that lines name count on by one. */
-static enum outcome follow_place(struct reading *reading, const struct cursor *beginning, const struct line *line)
+static enum outcome follow_place(struct encoding *encoding, const struct cursor *beginning, const struct line *line)
 {
-    int64_t count = (int64_t)reading->row.count;
     char expected[64];
 
     if (!line->placed)
         return DONE;
-    if (!reading->placed)
-        reading->start = line->place - count;
-    reading->placed = true;
-    if (line->place == reading->start + count)
+    if (!encoding->placed)
+        encoding->start = (int64_t)line->place - encoding->count;
+    encoding->placed = true;
+    if (line->place == encoding->start + encoding->count)
         return DONE;
-    snprintf(expected, sizeof expected, "place %" PRId64 ", or none", reading->start + count);
+    snprintf(expected, sizeof expected, "place %" PRId64 ", or none", encoding->start + encoding->count);
     return cursor_refuse(beginning, cursor_peek(beginning), expected);
 }
 
-static enum outcome add_line(struct reading *reading, const struct cursor *beginning)
+static enum outcome add_line(struct encoding *encoding, const struct cursor *beginning)
 {
     struct cursor cursor = *beginning;
     struct word first = cursor_peek(&cursor);
@@ -47,13 +37,13 @@ static enum outcome add_line(struct reading *reading, const struct cursor *begin
 
     if (first.length == 0)
         return DONE;
-    if (reading->row.count == HSC_MAX_EVENTS)
-        return cursor_refuse(&cursor, first, "no more than 1048576 events");
+    if (encoding->count == HSC_MAX_EVENTS)
+        return cursor_refuse(&cursor, first, "no more events, for an image has at most 1048576");
     outcome = line_parse(&cursor, &line);
     if (outcome == DONE)
-        outcome = follow_place(reading, beginning, &line);
+        outcome = follow_place(encoding, beginning, &line);
     if (outcome == DONE)
-        memcpy(reading->row.bytes + HSC_EVENT_SIZE * reading->row.count++, line.event, HSC_EVENT_SIZE);
+        memcpy(encoding->events + (size_t)HSC_EVENT_SIZE * encoding->count++, line.event, HSC_EVENT_SIZE);
     return outcome;
 }
 
@@ -64,50 +54,45 @@ static const char *line_end(const char *at, const char *end)
     return newline == NULL ? end : newline;
 }
 
-static enum outcome add_lines(struct reading *reading, const char *path, const char *text, const char *end)
+static enum outcome add_lines(struct encoding *encoding, const char *path, const char *at, const char *end)
 {
-    struct cursor cursor = {.path = path, .line = 1, .at = text, .end = text};
+    struct cursor cursor = {.path = path, .line = 1, .at = at};
+    enum outcome outcome = DONE;
 
-    while (cursor.at < end) {
-        enum outcome outcome;
-
+    while (outcome == DONE && cursor.at < end) {
         cursor.end = line_end(cursor.at, end);
-        outcome = add_line(reading, &cursor);
-        if (outcome != DONE)
-            return outcome;
+        outcome = add_line(encoding, &cursor);
         cursor.at = cursor.end < end ? cursor.end + 1 : end;
         cursor.line++;
     }
-    return DONE;
+    return outcome;
 }
 
 /* No more events than the text has lines, or an image can have. */
-static size_t most_events(const char *text, const char *end)
+static size_t most_events(const char *at, const char *end)
 {
     size_t lines = 1;
 
-    while (lines < HSC_MAX_EVENTS && (text = line_end(text, end)) < end) {
-        text++;
+    for (at = line_end(at, end); at < end && lines < HSC_MAX_EVENTS; at = line_end(at + 1, end))
         lines++;
-    }
     return lines;
 }
 
-enum outcome text_encode(struct row *row, const char *path, const char *text, size_t size)
+enum outcome text_encode(struct encoding *encoding, const struct contents *text)
 {
-    const char *end = text + size;
-    struct reading reading = {.placed = false};
+    const char *at = (const char *)text->bytes;
+    const char *end = at + text->size;
     enum outcome outcome;
 
-    if (size >= strlen(MARK) && memcmp(text, MARK, strlen(MARK)) == 0)
-        text += strlen(MARK);
-    reading.row.bytes = malloc(most_events(text, end) * HSC_EVENT_SIZE);
-    if (reading.row.bytes == NULL)
-        return tell_errno(path, "no memory for the events");
-    outcome = add_lines(&reading, path, text, end);
-    if (outcome == DONE)
-        *row = reading.row;
-    else
-        free(reading.row.bytes);
+    if (text->size > TEXT_LONGEST)
+        return tell_failure(text->path, "the text is longer than any that an image needs");
+    if (text->size >= strlen(MARK) && memcmp(at, MARK, strlen(MARK)) == 0)
+        at += strlen(MARK);
+    *encoding = (struct encoding){.events = malloc(most_events(at, end) * HSC_EVENT_SIZE)};
+    if (encoding->events == NULL)
+        return tell_errno(text->path, "no memory for the events");
+    outcome = add_lines(encoding, text->path, at, end);
+    if (outcome != DONE)
+        free(encoding->events);
     return outcome;
 }
