@@ -25,7 +25,12 @@
 #include <stddef.h>
 #include <stdint.h>
 
-#define HSC_VERSION "0.1.0"
+/*
+ * The version of this header: in words, and as one number, major * 10000 + minor * 100 + patch. A program compares the
+ * number with hsc_version() at its start, to see that header and archive belong together.
+ */
+#define HSC_VERSION "0.1.1"
+#define HSC_VERSION_NUMBER 101
 
 #define HSC_HEADER_SIZE 24
 #define HSC_EVENT_SIZE 12
@@ -189,9 +194,15 @@ static inline uint32_t hsc_place(uint64_t status)
     return (uint32_t)(status >> 32);
 }
 
+/* The version of the archive, as HSC_VERSION_NUMBER is that of the header. */
+uint32_t hsc_version(void);
+
 /* The calls that answer a status answer 0 where they are done. On a refusal every lent buffer is as it was. */
 
-/* Whether the event is legal: 1 yes, 0 no, 9 (HSC_REFUSED_SIZE) if it is not 12 bytes. Writes nothing. */
+/*
+ * Whether the event is legal: 1 yes, 0 no, 9 (HSC_REFUSED_SIZE) if it is not 12 bytes. Writes nothing.
+ * 9 is not yes: compare the answer with 1, never take it for a truth value.
+ */
 uint32_t hsc_event_check(const uint8_t *event, size_t event_len);
 
 /*
