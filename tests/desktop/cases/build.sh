@@ -48,7 +48,7 @@ no_trace() {
 for spacing in 0 4097 4294967296 18446744073709551615; do
     no_trace 2 "$spacing: the spacing is 1 to 4096 events" two.txt "$spacing"
 done
-for spacing in '' x -1 1.0; do
+for spacing in '' x 1.0; do
     no_trace 2 'not a decimal number' two.txt "$spacing"
 done
 { event 5 0 7; event 9 0 65536; } > illegal.events
