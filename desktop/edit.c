@@ -62,20 +62,26 @@ enum outcome edit_open(struct edit *edit, const struct request *request)
     return open_in_place(edit, path);
 }
 
-enum outcome edit_write(const struct edit *edit)
+enum outcome edit_write(struct edit *edit)
 {
-    return edit->dry ? DONE : target_write(&edit->target, edit->image.bytes, edit->image.size);
+    enum outcome outcome;
+
+    if (edit->dry)
+        return DONE;
+    outcome = target_write(&edit->target, edit->image.bytes, edit->image.size);
+    edit->written = outcome == DONE;
+    return outcome;
 }
 
 enum outcome edit_tell(const struct edit *edit)
 {
-    if (edit->dry) {
+    if (edit->dry)
         printf("dry run: nothing is written\n");
-        return DONE;
-    }
-    if (edit->other)
+    else if (!edit->written)
+        printf("%s is left as it is\n", edit->image.path);
+    else if (edit->other)
         printf("written to %s\n", edit->target.path);
-    return tell_written(edit->target.path);
+    return edit->written ? tell_written(edit->target.path) : DONE;
 }
 
 void edit_close(struct edit *edit)

@@ -11,7 +11,8 @@ struct edit {
     struct image image;
     struct target target; /* not opened in a dry run */
     bool dry;
-    bool other; /* the target is another file than the image's */
+    bool other;   /* the target is another file than the image's */
+    bool written; /* edit_write was done */
 };
 
 /*
@@ -21,9 +22,9 @@ struct edit {
 enum outcome edit_open(struct edit *edit, const struct request *request);
 
 /* Writes the image's bytes to where they go. */
-enum outcome edit_write(const struct edit *edit);
+enum outcome edit_write(struct edit *edit);
 
-/* Prints where they went, and sees that all that was printed is. */
+/* Prints where they went, if not over the image, and sees that all that was printed about it is. */
 enum outcome edit_tell(const struct edit *edit);
 
 void edit_close(struct edit *edit);

@@ -13,16 +13,11 @@ bool file_is_standard(const char *path)
     return strcmp(path, "-") == 0;
 }
 
-/* The status of the open file; where it cannot be had, the file is closed. */
 static enum outcome read_status(struct file *file)
 {
-    enum outcome outcome;
-
-    if (fstat(file->descriptor, &file->status) == 0)
-        return DONE;
-    outcome = tell_errno(file->path, "status cannot be read");
-    file_close(file);
-    return outcome;
+    if (fstat(file->descriptor, &file->status) != 0)
+        return tell_errno(file->path, "status cannot be read");
+    return DONE;
 }
 
 static enum outcome open_regular(struct file *file, const char *path, int flags)
@@ -34,10 +29,10 @@ static enum outcome open_regular(struct file *file, const char *path, int flags)
     if (file->descriptor < 0)
         return tell_errno(path, "cannot be opened");
     outcome = read_status(file);
-    if (outcome == DONE && !S_ISREG(file->status.st_mode)) {
+    if (outcome == DONE && !S_ISREG(file->status.st_mode))
+        outcome = tell_failure(path, "not a regular file");
+    if (outcome != DONE)
         file_close(file);
-        return tell_failure(path, "not a regular file");
-    }
     return outcome;
 }
 
@@ -67,19 +62,19 @@ static int lock(const struct file *file, bool *told)
     return answer;
 }
 
-/* Whether the path leads to the open file, whose status is read anew. */
-static enum outcome leads_here(struct file *file, bool *here)
+/* Locks the open file and reads its status anew; here: the path leads to it now. */
+static enum outcome lock_and_look(struct file *file, bool *told, bool *here)
 {
     struct stat now;
-    enum outcome outcome = read_status(file);
+    enum outcome outcome;
 
+    if (lock(file, told) != 0)
+        return tell_errno(file->path, "cannot be locked");
+    outcome = read_status(file);
     if (outcome != DONE)
         return outcome;
-    if (stat(file->path, &now) != 0) {
-        outcome = tell_errno(file->path, "status cannot be read");
-        file_close(file);
-        return outcome;
-    }
+    if (stat(file->path, &now) != 0)
+        return tell_errno(file->path, "the file of this name cannot be found again");
     *here = now.st_dev == file->status.st_dev && now.st_ino == file->status.st_ino;
     return DONE;
 }
@@ -90,19 +85,16 @@ enum outcome file_open_locked(struct file *file, const char *path)
 
     for (;;) {
         enum outcome outcome = open_regular(file, path, O_RDWR);
-        bool here;
+        bool here = false;
 
         if (outcome != DONE)
             return outcome;
-        if (lock(file, &told) != 0) {
-            outcome = tell_errno(path, "cannot be locked");
-            file_close(file);
-            return outcome;
-        }
-        outcome = leads_here(file, &here);
-        if (outcome != DONE || here)
-            return outcome;
+        outcome = lock_and_look(file, &told, &here);
+        if (here)
+            return DONE;
         file_close(file);
+        if (outcome != DONE)
+            return outcome;
     }
 }
 

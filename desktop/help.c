@@ -45,7 +45,7 @@ void print_help(void)
     print_usage(stdout);
     printf("IMAGE is a trace image, PATCH a file of 12-byte events; FIRST and J count from 0.\n"
            "hsc help COMMAND tells a command's options. Operands that begin with a dash stand after --.\n"
-           "Exit status: 0 done, 1 refused, 2 wrong usage or an error of the system, 3 (check) a table that is not true.\n");
+           "Exit status: 0 done, 1 refused, 2 wrong usage or system error, 3 (check) a table that is not true.\n");
 }
 
 enum outcome command_help(const struct request *request)

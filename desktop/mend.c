@@ -13,6 +13,11 @@
 /* The bytes of the longest legal patch. With one more, the library refuses the patch for any image. */
 #define LONGEST ((size_t)HSC_MAX_EVENTS * HSC_EVENT_SIZE)
 
+static const char *plural(size_t count)
+{
+    return count == 1 ? "" : "s";
+}
+
 /* Tells which half of refusal 7 it is. */
 static enum outcome refuse_patch(const struct image *image, uint64_t first, const struct contents *patch)
 {
@@ -22,8 +27,8 @@ static enum outcome refuse_patch(const struct image *image, uint64_t first, cons
     else if (patch->size % HSC_EVENT_SIZE != 0)
         fprintf(stderr, "the patch has %zu bytes, which is not a multiple of %d\n", patch->size, HSC_EVENT_SIZE);
     else
-        fprintf(stderr, "the patch has %zu events from place %" PRIu64 " on, but %s has only %" PRIu32 " events\n",
-                patch->size / HSC_EVENT_SIZE, first, image->path, image->events);
+        fprintf(stderr, "%zu event%s from place %" PRIu64 " on would go past the end: %s has %" PRIu32 " events\n",
+                patch->size / HSC_EVENT_SIZE, plural(patch->size / HSC_EVENT_SIZE), first, image->path, image->events);
     return REFUSED;
 }
 
@@ -56,12 +61,18 @@ static enum outcome check_table(const struct image *image)
 /* A count stands before what it counts; a place and an index count from 0. */
 static void print_mend(const struct image *image, uint64_t first, const struct contents *patch, const uint32_t span[2])
 {
-    printf("%zu events from place %" PRIu64 ", %" PRIu32 " snapshots from index %" PRIu32 ", stop %" PRIu32 ": %s",
-           patch->size / HSC_EVENT_SIZE, first, span[1] - span[0], span[0], span[1],
-           span[1] < image->snapshots ? "agreed there" : "none agreed");
+    size_t events = patch->size / HSC_EVENT_SIZE;
+    uint32_t snapshots = span[1] - span[0];
+
+    printf("%zu event%s from place %" PRIu64 ", %" PRIu32 " snapshot%s from index %" PRIu32, events, plural(events),
+           first, snapshots, plural(snapshots), span[0]);
+    if (span[1] < image->snapshots)
+        printf(", index %" PRIu32 " agreed", span[1]);
+    else
+        printf(", none agreed");
 }
 
-static enum outcome mend(const struct edit *edit, uint64_t first, const struct contents *patch, bool checked)
+static enum outcome mend(struct edit *edit, uint64_t first, const struct contents *patch, bool checked)
 {
     const struct image *image = &edit->image;
     uint32_t span[2];

@@ -6,19 +6,19 @@
 
 #include <stdio.h>
 
-static void print_table(const struct edit *edit, const struct comparison *comparison)
+static void print_table(const struct image *image, const struct comparison *comparison)
 {
     if (comparison->different == 0) {
-        printf("the table was true%s\n", edit->other ? "" : ": the file is left as it is");
+        printf("table true before\n");
         return;
     }
-    printf("the table was not true: ");
-    table_print_difference(stdout, &edit->image, comparison);
+    printf("table not true before: ");
+    table_print_difference(stdout, image, comparison);
     printf("\n");
 }
 
 /* A file whose table is true is left alone; another one is written whatever the table was. */
-static enum outcome replay(const struct edit *edit)
+static enum outcome replay(struct edit *edit)
 {
     struct comparison comparison;
     enum outcome outcome = table_replay(&edit->image, &comparison);
@@ -29,7 +29,7 @@ static enum outcome replay(const struct edit *edit)
         outcome = summary_print(&edit->image, comparison.last);
     if (outcome != DONE)
         return outcome;
-    print_table(edit, &comparison);
+    print_table(&edit->image, &comparison);
     return edit_tell(edit);
 }
 

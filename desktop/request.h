@@ -36,8 +36,8 @@ struct request {
 extern const struct option_text OPTION_TEXTS[OPTION_COUNT];
 
 /*
- * Reads the words. Options of the set stand anywhere before "--"; "-" alone is an operand. The operands are moved to the
- * front of the words. Anything else is told and fails.
+ * Reads the words. Options of the set stand anywhere before "--"; "-" alone is an operand. The operands are moved to
+ * the front of the words. Anything else is told and fails.
  */
 enum outcome request_parse(struct request *request, unsigned set, int count, char **words);
 

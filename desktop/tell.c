@@ -31,7 +31,7 @@ enum outcome tell_no_such(const char *path, const char *thing, uint64_t index, u
 {
     fprintf(stderr, "hsc: %s: there is no %s %" PRIu64, path, thing, index);
     if (count > 0)
-        fprintf(stderr, ", only %s 0 to %s %" PRIu64, thing, thing, count - 1);
+        fprintf(stderr, ", only %ss 0 to %" PRIu64, thing, count - 1);
     fprintf(stderr, "\n");
     return FAILED;
 }

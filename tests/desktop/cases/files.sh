@@ -41,7 +41,7 @@ fi
 mkdir -m 777 open shut
 cp two-events.trace open/reader.trace
 cp two-events.trace open/hidden.trace
-cp two-events.trace shut
+{ head -c 48 two-events.trace; zeros $((3 * 68)); } > shut/two-events.trace
 chmod 444 open/reader.trace
 chmod 000 open/hidden.trace
 chmod 666 shut/two-events.trace

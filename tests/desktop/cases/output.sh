@@ -1,6 +1,6 @@
 # Standard streams that are full or closed, and disks that are.
 
-for words in --help --version 'info two-events.trace' 'check two-events.trace' 'show two-events.trace 0' \
+for words in --help --version help 'help mend' 'info two-events.trace' 'check two-events.trace' 'show two-events.trace 0' \
     'replay two-events.trace'; do
     status=0
     "$PROGRAM" $words > /dev/full 2> err || status=$?
@@ -30,6 +30,16 @@ status=0
 "$PROGRAM" mend zero.trace 9 one-event.patch <&- >&- 2>&- || status=$?
 verdict "hsc mend with no streams, refused: exit status $status" [ "$status" -eq 1 ]
 same zero.trace two-events.trace
+
+# A line about a written file that is lost: the file is written, and that is told.
+for words in 'replay zero.trace' 'mend zero.trace 0 one-event.patch' 'replay zero.trace -o other.trace'; do
+    { head -c 48 two-events.trace; zeros $((3 * 68)); } > zero.trace
+    status=0
+    "$PROGRAM" $words > /dev/full 2> err || status=$?
+    verdict "hsc $words > /dev/full: exit status $status" [ "$status" -eq 2 ]
+    says err '.trace: written, but the line about it cannot be printed: No space left on device'
+done
+same other.trace two-events.trace
 
 # The limit on the size of files stands for a full disk: the messages go through a pipe.
 { head -c 48 two-events.trace; zeros $((3 * 68)); } > zero.trace

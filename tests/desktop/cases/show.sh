@@ -90,5 +90,5 @@ keep damaged.trace refuse 6 2 show damaged.trace 2
 
 for index in 3 4294967296 18446744073709551615; do
     try 2 show two-events.trace "$index"
-    says err 'no snapshot of this index'
+    says err "two-events.trace: there is no snapshot $index, only snapshots 0 to 2"
 done

@@ -1,21 +1,49 @@
 # Words on the command line.
 
-try 0 --help
-says out 'usage: hsc COMMAND'
-for command in info replay mend show check; do
-    says out "hsc $command"
-    try 0 "$command" --help
+for words in --help -h help; do
+    try 0 $words
+    says out 'usage: hsc COMMAND'
+    cp out "help$words"
+    for command in info show check replay mend help; do
+        says out "  hsc $command "
+    done
 done
+same help--help help-h
+same help--help helphelp
+for command in info show check replay mend help; do
+    try 0 help "$command"
+    says out "usage: hsc $command "
+    cp out described
+    for word in --help -h; do
+        try 0 "$command" "$word"
+        same out described
+    done
+done
+try 0 mend a --help
+prints << END
+usage: hsc mend [--check] [--dry-run] [-o OUT] IMAGE FIRST PATCH
+  put PATCH over the events from FIRST and mend the table
+  --check    compare the whole table first; one that is not true is refused
+  --dry-run  say what would happen and write nothing
+  -o         write the file OUT and leave the image as it is
+END
+try 2 help nonsense
+says err 'nonsense: no such command'
 
 try 0 --version
 prints << END
 hsc $version
 END
 
-for words in '' nonsense --nonsense info replay check show mend 'info a b' 'replay a b' 'check a b' \
-    'show a' 'show a 1 2' 'mend a 1' 'mend a 1 b c' 'info -x' 'info --'; do
+for words in '' nonsense --nonsense; do
     try 2 $words
     says err 'usage: hsc COMMAND'
+    verdict "hsc $words: nothing on standard output" [ ! -s out ]
+done
+for words in info replay check show mend 'info a b' 'replay a b' 'show a' 'show a 1 2' 'mend a 1' 'mend a 1 b c' \
+    'help a b' 'info -x' 'info --' 'info --check a' 'replay -o' 'replay a -o' 'mend --dry-run a 1 b --dry-run'; do
+    try 2 $words
+    says err "usage: hsc ${words%% *} "
     verdict "hsc $words: nothing on standard output" [ ! -s out ]
 done
 
@@ -30,3 +58,4 @@ try 0 show -- -dashed 2
 try 0 check -- -dashed
 try 0 replay -- -dashed
 try 0 mend -- -dashed 1 one-event.patch
+try 0 mend --dry-run -- -dashed 1 one-event.patch
