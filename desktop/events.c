@@ -65,7 +65,7 @@ static enum outcome parse_run(const struct image *image, const struct request *r
 enum outcome command_events(const struct request *request)
 {
     struct image image;
-    struct run run;
+    struct run run = {0, 0};
     enum outcome outcome = image_load(&image, request->operands[0]);
 
     if (outcome != DONE)

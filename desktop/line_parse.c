@@ -74,11 +74,11 @@ static bool ends_value(struct word word)
     return word.length == 0 || word_is(word, "stamp");
 }
 
+/* Sets the bits of the inputs that are on. */
 static enum outcome parse_inputs(struct cursor *cursor, const char *expected, int32_t *levels)
 {
     struct word word = cursor_next(cursor);
 
-    *levels = 0;
     if (word_is(word, "none"))
         return DONE;
     for (;;) {
@@ -109,9 +109,9 @@ static enum outcome parse_number(struct cursor *cursor, const struct form *form,
     return DONE;
 }
 
+/* Where the form has no value, it is left as it is. */
 static enum outcome parse_value(struct cursor *cursor, const struct form *form, int32_t *value)
 {
-    *value = 0;
     if (form->notation == INPUT_LIST)
         return parse_inputs(cursor, form->expected, value);
     if (form->notation != NO_VALUE)
@@ -151,9 +151,9 @@ static void parse_place(struct cursor *cursor, struct line *line)
 
 enum outcome line_parse(struct cursor *cursor, struct line *line)
 {
-    const struct form *form;
-    int32_t value;
-    uint32_t stamp;
+    const struct form *form = NULL;
+    int32_t value = 0;
+    uint32_t stamp = 0;
     enum outcome outcome;
 
     parse_place(cursor, line);

@@ -63,7 +63,7 @@ for words in 'kinds.trace 11' 'kinds.trace 4 0'; do
 done
 for place in 12 4294967296 18446744073709551615; do
     try 2 events kinds.trace "$place"
-    says err "kinds.trace: there is no event $place, only event 0 to event 10"
+    says err "kinds.trace: there is no event $place, only events 0 to 10"
 done
 
 # Only the events of the run are looked at; nothing is printed where one of them is not legal.

@@ -49,7 +49,7 @@ says out 'ACC      2'
 
 for place in 3 4294967296 18446744073709551615; do
     try 2 state two-events.trace "$place"
-    says err "two-events.trace: there is no event $place, only event 0 to event 1"
+    says err "two-events.trace: there is no event $place, only events 0 to 1"
 done
 
 # An event that is not legal matters from the place after it on.
