@@ -53,7 +53,7 @@ static enum outcome parse_event(const struct image *image, const struct request 
 enum outcome command_state(const struct request *request)
 {
     struct image image;
-    uint32_t event;
+    uint32_t event = 0;
     enum outcome outcome = image_load(&image, request->operands[0]);
 
     if (outcome != DONE)
