@@ -28,8 +28,8 @@ static const struct {
     const char *name;
     int number;
 } ERRORS[] = {
-    {"EACCES", EACCES}, {"EINTR", EINTR},   {"EINVAL", EINVAL}, {"EIO", EIO},
-    {"ENOMEM", ENOMEM}, {"ENOSPC", ENOSPC}, {"EPERM", EPERM},   {"EROFS", EROFS},
+    {"EACCES", EACCES}, {"EEXIST", EEXIST}, {"EINTR", EINTR}, {"EINVAL", EINVAL}, {"EIO", EIO},
+    {"ENOMEM", ENOMEM}, {"ENOSPC", ENOSPC}, {"EPERM", EPERM}, {"EROFS", EROFS},
 };
 
 static void abandon(const char *reason)
