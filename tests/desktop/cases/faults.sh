@@ -32,44 +32,50 @@ none_or_told() {
     no_temporary || grep -q '\.hsc-.*: cannot be removed' err
 }
 
-# each_fault MOST IDLE WORD..: every call but the idle ones, which the command does not make, the first ones of its name:
-# the file is whole; a run that is done has written it, and one that is not says so in words.
+# one_fault HOW WORD..: runs the program while the call goes wrong; its exit status is in status.
+one_fault() {
+    prepare
+    status=0
+    one_how=$1
+    shift
+    FAULT=$call:$count:$one_how "$PROGRAM" "$@" > out 2> err || status=$?
+    verdict "hsc $*, $call $count: $one_how: $written is whole" whole
+}
+
+# each_fault WORD..: every call of the run fails, and is the last before a crash. The file is whole; a run that is done
+# has written it, and one that is not says so in words.
+made=
 each_fault() {
-    most=$1 idle=$2
-    shift 2
     for call in $FAULTY; do
-        for count in $(seq "$most"); do
-            prepare
-            status=0
-            FAULT=$call:$count:EIO "$PROGRAM" "$@" > out 2> err || status=$?
-            verdict "hsc $*, $call $count fails: $written is whole" whole
+        count=1
+        one_fault KILL "$@"
+        [ "$status" -ne 137 ] || made="$made $call"
+        while [ "$status" -eq 137 ]; do
+            one_fault EIO "$@"
             case $status in
             0) verdict "hsc $*, $call $count fails, the run is done: $written is new" cmp -s "$written" "$new" ;;
             2) says err 'hsc: ' ;;
             *) verdict "hsc $*, $call $count fails: exit status $status" false ;;
             esac
             verdict "hsc $*, $call $count fails: no temporary file, or one that is told" none_or_told
-
-            prepare
-            status=0
-            FAULT=$call:$count:KILL "$PROGRAM" "$@" > out 2> err || status=$?
-            verdict "hsc $*, killed before $call $count: $written is whole" whole
-            case " $idle " in
-            *" $call "*) verdict "hsc $*: no $call" [ "$status" -eq 0 ] ;;
-            *) [ "$count" -gt 1 ] || verdict "hsc $*, killed before $call" [ "$status" -eq 137 ] ;;
-            esac
+            count=$((count + 1))
+            one_fault KILL "$@"
         done
+        verdict "hsc $*, no $call $count: done" [ "$status" -eq 0 ]
     done
 }
 
 writes other.trace none new.trace
-each_fault 4 'fchown fcntl lstat realpath rename' replay night.trace -o other.trace
+each_fault replay night.trace -o other.trace
 writes other.trace words.trace new.trace
-each_fault 3 'link strdup unlink' replay -o other.trace night.trace
+each_fault replay -o other.trace night.trace
 writes night.trace new.trace nine.trace
-each_fault 4 'link strdup unlink' mend --check night.trace 0 one-event.patch
+each_fault mend --check night.trace 0 one-event.patch
 writes night.trace old.trace new.trace
-each_fault 6 'link strdup unlink' replay night.trace
+each_fault replay night.trace
+for call in $FAULTY; do
+    verdict "$call is made" [ "${made#* "$call"}" != "$made" ]
+done
 
 # fails CALL:N:ERRNO TEXT: replay fails with these words and leaves the image.
 fails() {

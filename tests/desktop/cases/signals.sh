@@ -1,7 +1,6 @@
 # Signals at any time, and readers that have gone away: a file is written and told, or it is as it was.
 
-verdict 'interrupt.c builds' $CC -std=c11 $WARNINGS $SANITIZE -D_XOPEN_SOURCE=700 -o interrupt \
-    "$root/tests/desktop/interrupt.c"
+verdict 'interrupt.c builds' $CC -std=c11 $WARNINGS -D_XOPEN_SOURCE=700 -o interrupt "$root/tests/desktop/interrupt.c"
 
 # An image of 2048 blanks without its table, which takes some time to be written.
 { header 2048 1; zeros $((2048 * 12 + 2049 * 68)); } > old.trace
