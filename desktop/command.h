@@ -35,7 +35,19 @@ enum outcome command_mend(const struct request *request);
 /* IMAGE J: snapshot J in words. */
 enum outcome command_show(const struct request *request);
 
-/* IMAGE: whether the table is true. */
+/* IMAGE [FROM [COUNT]]: events as lines of text. */
+enum outcome command_events(const struct request *request);
+
+/* IMAGE [EVENT]: the state before an event, or after all of them, in words. */
+enum outcome command_state(const struct request *request);
+
+/* TEXT OUT: the text's events as a patch. */
+enum outcome command_encode(const struct request *request);
+
+/* EVENTS K OUT: an image of these events. */
+enum outcome command_build(const struct request *request);
+
+/* IMAGE...: whether each table is true. */
 enum outcome command_check(const struct request *request);
 
 /* [COMMAND]: what the commands, or this one, take and do. */

@@ -1,6 +1,8 @@
 /* A trace image in memory. The library judges it, the header alone first. */
 #include "image.h"
 
+#include "bytes.h"
+#include "header.h"
 #include "hsc.h"
 
 #include <inttypes.h>
@@ -8,19 +10,9 @@
 #include <stdlib.h>
 #include <string.h>
 
-/* Places of the header's numbers. */
-enum {
-    EVENTS_AT = 0,
-    EVENT_OFFSET_AT = 4,
-    SNAPSHOTS_AT = 8,
-    SNAPSHOT_OFFSET_AT = 12,
-    SPACING_AT = 16,
-    SIXTH_AT = 20
-};
-
 static uint32_t number_at(const uint8_t *bytes)
 {
-    return (uint32_t)bytes[0] | (uint32_t)bytes[1] << 8 | (uint32_t)bytes[2] << 16 | (uint32_t)bytes[3] << 24;
+    return bytes_number(bytes, 4);
 }
 
 static size_t snapshot_offset(uint32_t events)

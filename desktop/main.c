@@ -6,6 +6,7 @@
 #include "tell.h"
 
 #include <fcntl.h>
+#include <inttypes.h>
 #include <signal.h>
 #include <stdio.h>
 #include <string.h>
@@ -62,6 +63,16 @@ static enum outcome run(int count, char **words)
     return run_command(command, count - 2, words + 2);
 }
 
+/* The library's calls are those of the header only where both are of one version. */
+static enum outcome check_version(void)
+{
+    if (hsc_version() == HSC_VERSION_NUMBER)
+        return DONE;
+    fprintf(stderr, "hsc: built for library version %d, but linked with %" PRIu32 "\n", HSC_VERSION_NUMBER,
+            hsc_version());
+    return FAILED;
+}
+
 /* Fills the places of standard streams that are closed, so that no file of ours stands there; writing to them fails. */
 static enum outcome fill_standard_streams(void)
 {
@@ -104,6 +115,8 @@ int main(int count, char **words)
 
     if (outcome == DONE)
         outcome = ignore_size_signal();
+    if (outcome == DONE)
+        outcome = check_version();
     if (outcome == DONE)
         outcome = run(count, words);
     outcome = finish_output(outcome);

@@ -5,6 +5,7 @@
 #include <string.h>
 
 const struct option_text OPTION_TEXTS[] = {
+    [OPTION_BARE] = {"--bare", NULL, "leave the places out, so that lines can be moved"},
     [OPTION_CHECK] = {"--check", NULL, "compare the whole table first; one that is not true is refused"},
     [OPTION_DRY_RUN] = {"--dry-run", NULL, "say what would happen and write nothing"},
     [OPTION_GAPS] = {"--gaps", NULL, "print every gap"},

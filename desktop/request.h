@@ -8,6 +8,7 @@
 
 /* The options; a command takes some of them, as its row in command.c says. */
 enum option {
+    OPTION_BARE,
     OPTION_CHECK,
     OPTION_DRY_RUN,
     OPTION_GAPS,

@@ -2,3 +2,4 @@
 pub mod Status
 pub mod Fields
 pub mod Calls
+pub mod Version

@@ -6,3 +6,4 @@ pub mod mending;
 pub mod reading;
 pub mod replaying;
 pub mod stepping;
+pub mod version;
