@@ -16,7 +16,7 @@ edit_is_there() {
     cmp -s -n 12 -i $((24 + 12 * 9 * $2)):0 "$1" "patch-$turn-$2"
 }
 
-# one_round PROCESSES: all mend at once; counts the runs that fail, and the edits that are lost though their run did not.
+# one_round PROCESSES: all mend at once; the processes whose run is done are in done, the others are counted.
 one_round() {
     racing=
     for process in $(seq "$1"); do
@@ -30,7 +30,7 @@ one_round() {
     done
 }
 
-# race PROCESSES ROUNDS
+# race PROCESSES ROUNDS: counts the edits that are lost though their run was done.
 race() {
     lost=0 undone=0
     cp turn-0.trace race.trace
@@ -119,7 +119,7 @@ if command -v script > /dev/null; then
     meanwhile mend race.trace 9 patch-1-1
     script -q -e -c "$PROGRAM mend race.trace 18 patch-1-2" /dev/null < /dev/null > out 2> err
     verdict 'the wait on a terminal' [ $? -eq 0 ]
-    verdict 'the wait is told once' [ "$(grep -c 'race.trace: waiting until another program has written it' out)" -eq 1 ]
+    verdict 'the wait is told once' [ "$(grep -c 'race.trace: waiting until another program has' out)" -eq 1 ]
     slow_is_done 0
     verdict 'the edit after the wait is there' edit_is_there race.trace 2
 else

@@ -68,8 +68,8 @@ END
 { header 2 1; event 5 0 9; event 9 0 3; snapshot 0 0; snapshot 9 0; snapshot 9 3; } > nine.trace
 same night.trace nine.trace
 
-# A table that is not true: mended as document 01 has it, and the line says that it was not looked at; with --check it is
-# refused, the first snapshot that differs is named, and the file stays.
+# A table that is not true: mended as document 01 has it, and the line says that it was not looked at. With --check it
+# is refused, the first snapshot that differs is named, and the file stays.
 { head -c 48 two-events.trace; snapshot 0 0; snapshot 8 0; snapshot 7 3; } > untrue.trace
 cp untrue.trace night.trace
 keep night.trace try 1 mend night.trace 1 one-event.patch --check

@@ -3,7 +3,7 @@
 for page in hsc.1 hsc.3 hsc-events.5; do
     verdict "$page has the version $version" grep -q -F "\"hsc $version\"" "$root/man/$page"
     if command -v groff > /dev/null; then
-        groff -man -ww -z -Tutf8 "$root/man/$page" 2> err
+        groff -t -man -ww -z -Tutf8 "$root/man/$page" 2> err
         verdict "$page has no warnings of groff" [ ! -s err ]
     else
         skip 'no groff'

@@ -56,7 +56,7 @@ for round in $(seq "$rounds"); do
     ./interrupt "$signal" $((chance / 256 % takes)) "$PROGRAM" replay night.trace > out 2> err || status=$?
     judge "$signal"
 done
-echo "signals: $rounds sent: $before came before the rename, $after later; $silent silent changes, $left temporary files"
+echo "signals: $rounds sent, $before before the rename and $after later; $silent silent changes, $left temporary files"
 : > err
 verdict "$silent runs changed the file and did not tell it" [ "$silent" -eq 0 ]
 verdict "$wrong runs ended in another way" [ "$wrong" -eq 0 ]
