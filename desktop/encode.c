@@ -2,6 +2,7 @@
 #include "command.h"
 #include "output.h"
 #include "text.h"
+#include "words.h"
 
 #include <inttypes.h>
 #include <stdio.h>
@@ -14,7 +15,7 @@ static enum outcome write_events(const struct encoding *encoding, const char *so
 
     if (outcome != DONE)
         return outcome;
-    printf("%" PRIu32 " events", encoding->count);
+    printf("%" PRIu32 " event%s", encoding->count, plural(encoding->count));
     if (encoding->placed)
         printf(" from place %" PRId64, encoding->start);
     printf("\n");

@@ -5,6 +5,7 @@
 #include "hsc.h"
 #include "number.h"
 #include "table.h"
+#include "words.h"
 
 #include <inttypes.h>
 #include <stdio.h>
@@ -12,11 +13,6 @@
 
 /* The bytes of the longest legal patch. With one more, the library refuses the patch for any image. */
 #define LONGEST ((size_t)HSC_MAX_EVENTS * HSC_EVENT_SIZE)
-
-static const char *plural(size_t count)
-{
-    return count == 1 ? "" : "s";
-}
 
 /* Tells which half of refusal 7 it is. */
 static enum outcome refuse_patch(const struct image *image, uint64_t first, const struct contents *patch)

@@ -53,3 +53,8 @@ const char *const ERROR_NAMES[] = {
     "LOP is below UNF",
 };
 NAMES_ALL(ERROR_NAMES, HSC_ER_COUNT);
+
+const char *plural(size_t count)
+{
+    return count == 1 ? "" : "s";
+}

@@ -2,6 +2,8 @@
 #ifndef WORDS_H
 #define WORDS_H
 
+#include <stddef.h>
+
 /* By enum hsc_kind. */
 extern const char *const KIND_NAMES[];
 
@@ -22,5 +24,8 @@ extern const char *const MODE_NAMES[];
 
 /* The rule that the last load broke, by enum hsc_error. */
 extern const char *const ERROR_NAMES[];
+
+/* The ending of a noun that is counted. */
+const char *plural(size_t count);
 
 #endif
