@@ -75,7 +75,7 @@ static enum outcome build_from(const struct plan *plan, const struct contents *c
 static enum outcome parse_spacing(const char *text, uint32_t *spacing)
 {
     uint64_t number;
-    enum outcome outcome = number_parse(text, &number);
+    enum outcome outcome = number_parse("K", text, &number);
 
     if (outcome != DONE)
         return outcome;

@@ -50,9 +50,9 @@ static enum outcome parse_run(const struct image *image, const struct request *r
     enum outcome outcome = DONE;
 
     if (request->operand_count > 1)
-        outcome = number_parse(request->operands[1], &from);
+        outcome = number_parse("FROM", request->operands[1], &from);
     if (outcome == DONE && request->operand_count > 2)
-        outcome = number_parse(request->operands[2], &count);
+        outcome = number_parse("COUNT", request->operands[2], &count);
     if (outcome != DONE)
         return outcome;
     if (from > image->events)

@@ -105,7 +105,7 @@ enum outcome command_mend(const struct request *request)
 {
     struct contents patch;
     uint64_t first;
-    enum outcome outcome = number_parse(request->operands[1], &first);
+    enum outcome outcome = number_parse("FIRST", request->operands[1], &first);
 
     if (outcome != DONE)
         return outcome;

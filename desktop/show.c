@@ -26,7 +26,7 @@ enum outcome command_show(const struct request *request)
 {
     struct image image;
     uint64_t j;
-    enum outcome outcome = number_parse(request->operands[1], &j);
+    enum outcome outcome = number_parse("J", request->operands[1], &j);
 
     if (outcome != DONE)
         return outcome;

@@ -40,7 +40,7 @@ static enum outcome print_state(const struct image *image, uint32_t event)
 static enum outcome parse_event(const struct image *image, const struct request *request, uint32_t *event)
 {
     uint64_t place = image->events;
-    enum outcome outcome = request->operand_count > 1 ? number_parse(request->operands[1], &place) : DONE;
+    enum outcome outcome = request->operand_count > 1 ? number_parse("EVENT", request->operands[1], &place) : DONE;
 
     if (outcome != DONE)
         return outcome;

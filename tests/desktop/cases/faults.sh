@@ -5,6 +5,10 @@ cp two-events.trace new.trace
 { header 2 1; event 5 0 9; event 9 0 3; snapshot 0 0; snapshot 9 0; snapshot 9 3; } > nine.trace
 echo 'not an image' > words.trace
 
+echo 'ACC 9' > nine.text
+printf '0 ACC 9\n1 outputs 3\n' > two.text
+head -c 48 two-events.trace | tail -c 24 > two.events
+
 # writes FILE OLD NEW: what the next commands write; OLD is none where they make the file.
 writes() {
     written=$1 old=$2 new=$3
@@ -12,7 +16,7 @@ writes() {
 
 # prepare: the files as they are before a command, and no temporary file.
 prepare() {
-    rm -f .hsc-* other.trace
+    rm -f .hsc-* other.trace made.*
     cp old.trace night.trace
     [ "$old" = none ] || cp "$old" "$written"
 }
@@ -73,9 +77,23 @@ writes night.trace new.trace nine.trace
 each_fault mend --check night.trace 0 one-event.patch
 writes night.trace old.trace new.trace
 each_fault replay night.trace
+writes made.patch none one-event.patch
+each_fault encode nine.text made.patch
+writes made.trace none nine.trace
+each_fault build two.text 1 made.trace
+writes made.trace words.trace new.trace
+each_fault build two.events 1 made.trace
 for call in $FAULTY; do
     verdict "$call is made" [ "${made#* "$call"}" != "$made" ]
 done
+
+# The commands that only print.
+writes night.trace new.trace new.trace
+for words in 'info night.trace' 'events night.trace' 'show night.trace 1' 'state night.trace 1' 'check night.trace' \
+    'replay night.trace' 'mend --dry-run night.trace 0 one-event.patch'; do
+    each_fault $words
+done
+writes night.trace old.trace new.trace
 
 # fails CALL:N:ERRNO TEXT: replay fails with these words and leaves the image.
 fails() {

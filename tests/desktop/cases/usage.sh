@@ -48,8 +48,10 @@ for words in info replay check show mend 'info a b' 'replay a b' 'show a' 'show 
 done
 
 for number in '' x 1x -1 +1 ' 1' 0x1 1.0 18446744073709551616; do
-    keep two-events.trace try 2 mend two-events.trace "$number" one-event.patch
-    try 2 show two-events.trace "$number"
+    keep two-events.trace try 2 mend -- two-events.trace "$number" one-event.patch
+    says err "FIRST: '$number' is "
+    try 2 show -- two-events.trace "$number"
+    says err "J: '$number' is "
 done
 
 cp two-events.trace ./-dashed
