@@ -43,7 +43,8 @@ void print_usage(FILE *stream)
 void print_help(void)
 {
     print_usage(stdout);
-    printf("IMAGE is a trace image, PATCH a file of 12-byte events; FIRST and J count from 0.\n"
+    printf("IMAGE is a trace image, PATCH a file of 12-byte events, TEXT one of events in words, EVENTS either;\n"
+           "each may be -, standard input. FIRST, FROM, EVENT and J count from 0.\n"
            "hsc help COMMAND tells a command's options. Operands that begin with a dash stand after --.\n"
            "Exit status: 0 done, 1 refused, 2 wrong usage or system error, 3 (check) a table that is not true.\n");
 }

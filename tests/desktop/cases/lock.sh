@@ -96,6 +96,14 @@ try 0 replay turn-1.trace -o race.trace
 slow_is_done 0
 same race.trace turn-1.trace
 
+# Each the other one's OUT: neither waits for ever.
+cp turn-0.trace one.trace
+cp turn-0.trace other.trace
+meanwhile mend one.trace 9 patch-1-1 -o other.trace
+try 0 mend other.trace 9 patch-1-1 -o one.trace
+slow_is_done 0
+same one.trace other.trace
+
 # Readers and dry runs do not wait.
 cp turn-0.trace race.trace
 meanwhile mend race.trace 9 patch-1-1
