@@ -2,7 +2,7 @@
 #include "output.h"
 
 #include "file.h"
-#include "replace.h"
+#include "target.h"
 
 #include <stdio.h>
 
@@ -11,8 +11,7 @@ static bool same_file(const char *out, const char *source)
     struct stat one;
     struct stat other;
 
-    return stat(out, &one) == 0 && stat(source, &other) == 0 && one.st_dev == other.st_dev &&
-           one.st_ino == other.st_ino;
+    return stat(out, &one) == 0 && stat(source, &other) == 0 && file_is_same(&one, &other);
 }
 
 enum outcome output_write(const char *out, const char *source, const uint8_t *bytes, size_t size)
