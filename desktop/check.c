@@ -56,6 +56,7 @@ static enum outcome worse(enum outcome one, enum outcome other)
 {
     static const int RANKS[] = {[DONE] = 0, [NOT_TRUE] = 1, [REFUSED] = 2, [FAILED] = 3};
 
+    _Static_assert(sizeof RANKS / sizeof RANKS[0] == OUTCOME_COUNT, "a rank for every outcome");
     return RANKS[one] > RANKS[other] ? one : other;
 }
 

@@ -39,10 +39,8 @@ static void print_bits(uint32_t bits, const char *const *names, int count)
 
 static void print_levels(uint32_t levels)
 {
-    static const char *const INPUTS[] = {"0", "1", "2", "3"};
-
     printf("%-8s", "inputs");
-    print_bits(levels, INPUTS, 4);
+    print_bits(levels, INPUT_NAMES, HSC_INPUT_COUNT);
 }
 
 static void print_shown(const int32_t *fields)

@@ -10,9 +10,6 @@
 #include <stdint.h>
 #include <stdio.h>
 
-/* An event's inputs, of which a line names those that are on. */
-#define INPUT_COUNT 4
-
 struct line {
     bool placed; /* it names the event's place */
     uint32_t place;

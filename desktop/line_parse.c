@@ -84,7 +84,7 @@ static enum outcome parse_inputs(struct cursor *cursor, const char *expected, in
     for (;;) {
         int64_t input;
 
-        if (!word_number(word, 0, INPUT_COUNT - 1, &input) || (*levels >> input & 1) != 0)
+        if (!word_number(word, 0, HSC_INPUT_COUNT - 1, &input) || (*levels >> input & 1) != 0)
             return cursor_refuse(cursor, word, expected);
         *levels |= 1 << input;
         if (ends_value(cursor_peek(cursor)))

@@ -2,14 +2,15 @@
 #include "event.h"
 #include "form.h"
 #include "line.h"
+#include "words.h"
 
 #include <inttypes.h>
 
 static void print_inputs(FILE *stream, int32_t levels)
 {
-    for (int input = 0; input < INPUT_COUNT; input++)
+    for (int input = 0; input < HSC_INPUT_COUNT; input++)
         if (levels >> input & 1)
-            fprintf(stream, " %d", input);
+            fprintf(stream, " %s", INPUT_NAMES[input]);
     if (levels == 0)
         fprintf(stream, " none");
 }

@@ -33,7 +33,7 @@ struct request {
     char *const *operands;
 };
 
-extern const struct option_text OPTION_TEXTS[OPTION_COUNT];
+extern const struct option_text OPTION_TEXTS[];
 
 /*
  * Reads the words. Options of the set stand anywhere before "--"; "-" alone is an operand. The operands are moved to

@@ -9,7 +9,8 @@ enum outcome {
     DONE = 0,
     REFUSED = 1,
     FAILED = 2,
-    NOT_TRUE = 3
+    NOT_TRUE = 3,
+    OUTCOME_COUNT = 4
 };
 
 /* Tells in words why something failed, and answers FAILED. */

@@ -22,6 +22,11 @@ const char *const FLAG_NAMES[] = {
 };
 NAMES_ALL(FLAG_NAMES, HSC_FLAG_COUNT);
 
+const char *const INPUT_NAMES[] = {
+    "0", "1", "2", "3",
+};
+NAMES_ALL(INPUT_NAMES, HSC_INPUT_COUNT);
+
 const char *const SHOWN_NAMES[] = {
     "UIX", "UIP", "CU", "CD", "HPR", "LPR",
 };

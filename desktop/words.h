@@ -13,6 +13,9 @@ extern const char *const SETTING_NAMES[];
 /* By enum hsc_flag. */
 extern const char *const FLAG_NAMES[];
 
+/* By their numbers. */
+extern const char *const INPUT_NAMES[];
+
 /* By enum hsc_field, those that are shown but not stored, from HSC_UIX on. */
 extern const char *const SHOWN_NAMES[];
 

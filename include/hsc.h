@@ -40,6 +40,8 @@
 #define HSC_MAX_EVENTS 1048576
 #define HSC_MAX_SPACING 4096
 
+#define HSC_INPUT_COUNT 4
+
 /* A refusal: its number, and what its place counts. */
 enum hsc_refusal {
     HSC_DONE = 0,                /* no refusal */

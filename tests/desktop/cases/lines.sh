@@ -3,7 +3,8 @@
 build_lines() {
     $CC -std=c11 $WARNINGS $SANITIZE -D_XOPEN_SOURCE=700 -I"$root/include" -I"$root/desktop" -o lines \
         "$root/tests/desktop/lines.c" "$root"/desktop/line_print.c "$root"/desktop/line_parse.c "$root"/desktop/cursor.c \
-        "$root"/desktop/form.c "$root"/desktop/event.c "$root"/desktop/bytes.c "$archive" $LDLIBS 2> err
+        "$root"/desktop/form.c "$root"/desktop/event.c "$root"/desktop/bytes.c "$root"/desktop/words.c \
+        "$archive" $LDLIBS 2> err
 }
 
 verdict 'the lines build' build_lines
