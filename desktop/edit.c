@@ -20,8 +20,7 @@ static enum outcome open_in_place(struct edit *edit, const char *path)
 
 static bool same_place(const struct target *target, const struct image *image)
 {
-    return target->exists && target->file.status.st_dev == image->status.st_dev &&
-           target->file.status.st_ino == image->status.st_ino;
+    return target->exists && file_is_same(&target->file.status, &image->status);
 }
 
 static enum outcome read_other(struct edit *edit, const char *path)

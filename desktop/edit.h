@@ -3,9 +3,11 @@
 #define EDIT_H
 
 #include "image.h"
-#include "replace.h"
 #include "request.h"
+#include "target.h"
 #include "tell.h"
+
+#include <stdbool.h>
 
 struct edit {
     struct image image;

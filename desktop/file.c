@@ -3,7 +3,6 @@
 
 #include <errno.h>
 #include <fcntl.h>
-#include <stdio.h>
 #include <stdlib.h>
 #include <string.h>
 #include <unistd.h>
@@ -44,58 +43,14 @@ enum outcome file_open(struct file *file, const char *path)
     return read_status(file);
 }
 
-/* Locks the whole open file. A wait is told once, where someone is there to read it. */
-static int lock(const struct file *file, bool *told)
+enum outcome file_open_writable(struct file *file, const char *path)
 {
-    struct flock whole = {.l_type = F_WRLCK, .l_whence = SEEK_SET};
-    int answer = fcntl(file->descriptor, F_SETLK, &whole);
-
-    if (answer == 0 || (errno != EACCES && errno != EAGAIN))
-        return answer;
-    if (!*told && isatty(STDERR_FILENO)) {
-        fprintf(stderr, "hsc: %s: waiting until another program has written it\n", file->path);
-        *told = true;
-    }
-    do
-        answer = fcntl(file->descriptor, F_SETLKW, &whole);
-    while (answer != 0 && errno == EINTR);
-    return answer;
+    return open_regular(file, path, O_RDWR);
 }
 
-/* Locks the open file and reads its status anew; here: the path leads to it now. */
-static enum outcome lock_and_look(struct file *file, bool *told, bool *here)
+bool file_is_same(const struct stat *one, const struct stat *other)
 {
-    struct stat now;
-    enum outcome outcome;
-
-    if (lock(file, told) != 0)
-        return tell_errno(file->path, "cannot be locked");
-    outcome = read_status(file);
-    if (outcome != DONE)
-        return outcome;
-    if (stat(file->path, &now) != 0)
-        return tell_errno(file->path, "the file of this name cannot be found again");
-    *here = now.st_dev == file->status.st_dev && now.st_ino == file->status.st_ino;
-    return DONE;
-}
-
-enum outcome file_open_locked(struct file *file, const char *path)
-{
-    bool told = false;
-
-    for (;;) {
-        enum outcome outcome = open_regular(file, path, O_RDWR);
-        bool here = false;
-
-        if (outcome != DONE)
-            return outcome;
-        outcome = lock_and_look(file, &told, &here);
-        if (here)
-            return DONE;
-        file_close(file);
-        if (outcome != DONE)
-            return outcome;
-    }
+    return one->st_dev == other->st_dev && one->st_ino == other->st_ino;
 }
 
 enum outcome file_read(const struct file *file, uint8_t *bytes, size_t size, size_t *count)
@@ -115,8 +70,9 @@ enum outcome file_read(const struct file *file, uint8_t *bytes, size_t size, siz
 
 void file_close(const struct file *file)
 {
-    /* Only read from: a failing close loses nothing. */
-    (void)close(file->descriptor);
+    /* Only read from: a failing close loses nothing. Standard input stays. */
+    if (!file->stream)
+        (void)close(file->descriptor);
 }
 
 size_t file_size_up_to(const struct file *file, size_t limit)

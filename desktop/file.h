@@ -25,11 +25,11 @@ bool file_is_standard(const char *path);
  */
 enum outcome file_open(struct file *file, const char *path);
 
-/*
- * Opens a regular file to be read and replaced, once no other program does so. The lock is the process's, and ends with
- * file_close, with any other descriptor of this file, and with the process. The path still leads to the file then.
- */
-enum outcome file_open_locked(struct file *file, const char *path);
+/* The same, but only a regular file that the user may write too. */
+enum outcome file_open_writable(struct file *file, const char *path);
+
+/* Whether both are of one file. */
+bool file_is_same(const struct stat *one, const struct stat *other);
 
 /* The next bytes, so many; of standard input as many as there are. A regular file that ends before them fails. */
 enum outcome file_read(const struct file *file, uint8_t *bytes, size_t size, size_t *count);

@@ -12,7 +12,7 @@
 #include <string.h>
 #include <unistd.h>
 
-/* Tells what is wrong with the command's words, and how they are to be. */
+/* What is wrong with the command's words is told; these are the right ones. */
 static enum outcome wrong_words(const struct command *command)
 {
     print_command_usage(stderr, command);

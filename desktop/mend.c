@@ -40,7 +40,7 @@ static enum outcome refuse(const struct image *image, uint64_t first, const stru
     }
 }
 
-/* A table that is not true is refused; the image is left to be thrown away. */
+/* A table that is not true is refused; the image is replayed then. */
 static enum outcome check_table(const struct image *image)
 {
     struct comparison comparison;

@@ -2,7 +2,7 @@
 #include "output.h"
 
 #include "file.h"
-#include "replace.h"
+#include "target.h"
 
 #include <errno.h>
 #include <stdio.h>
@@ -17,7 +17,7 @@ static enum outcome compare_files(const char *out, const char *source)
         return errno == ENOENT ? DONE : tell_errno(out, "status cannot be read");
     if (stat(source, &other) != 0)
         return tell_errno(source, "status cannot be read");
-    if (one.st_dev == other.st_dev && one.st_ino == other.st_ino)
+    if (file_is_same(&one, &other))
         return tell_failure(out, "is the file that is read");
     return DONE;
 }

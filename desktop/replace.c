@@ -1,10 +1,13 @@
 /* A file replaced or made, whole or not at all. */
 #include "replace.h"
 
+#include "file.h"
+#include "rights.h"
 #include "signals.h"
 
 #include <errno.h>
 #include <fcntl.h>
+#include <stdbool.h>
 #include <stdio.h>
 #include <stdlib.h>
 #include <string.h>
@@ -20,9 +23,7 @@ struct replacement {
     char *temporary;
     int folder_descriptor;
     int descriptor; /* of the temporary file */
-    int owner_lost; /* the error that kept it from the temporary file, or 0 */
-    int group_lost;
-    int mode_lost;
+    struct rights rights;
     struct signals signals;
 };
 
@@ -40,41 +41,6 @@ static bool write_all(int descriptor, const uint8_t *bytes, size_t size)
     return true;
 }
 
-/* Owner and group are a wish. Where the group is not kept, the new one may do no more than others could. */
-static bool keep_owner_and_mode(struct replacement *replacement)
-{
-    const struct stat *old = replacement->old;
-    mode_t mode = old->st_mode & (S_ISUID | S_ISGID | S_ISVTX | S_IRWXU | S_IRWXG | S_IRWXO);
-
-    if (fchown(replacement->descriptor, old->st_uid, old->st_gid) != 0) {
-        replacement->owner_lost = errno;
-        mode &= S_IRWXU | S_IRWXG | S_IRWXO;
-        if (fchown(replacement->descriptor, (uid_t)-1, old->st_gid) != 0) {
-            replacement->group_lost = errno;
-            mode &= S_IRWXU | S_IRWXO | (mode & S_IRWXO) << 3;
-        }
-    }
-    return fchmod(replacement->descriptor, mode) == 0;
-}
-
-/* The mode of a new file is a wish: the temporary file's is narrower. */
-static void give_mode(struct replacement *replacement)
-{
-    mode_t mask = umask(0);
-
-    (void)umask(mask);
-    if (fchmod(replacement->descriptor, (S_IRUSR | S_IWUSR | S_IRGRP | S_IWGRP | S_IROTH | S_IWOTH) & ~mask) != 0)
-        replacement->mode_lost = errno;
-}
-
-static bool give_owner_and_mode(struct replacement *replacement)
-{
-    if (replacement->old != NULL)
-        return keep_owner_and_mode(replacement);
-    give_mode(replacement);
-    return true;
-}
-
 /* Writes the temporary file, brings it to the disk and closes it, whatever fails. */
 static enum outcome write_temporary(struct replacement *replacement, const uint8_t *bytes, size_t size)
 {
@@ -82,7 +48,7 @@ static enum outcome write_temporary(struct replacement *replacement, const uint8
 
     if (!write_all(replacement->descriptor, bytes, size))
         outcome = tell_errno(replacement->path, "not written, its temporary file cannot be written");
-    else if (!give_owner_and_mode(replacement))
+    else if (!rights_give(&replacement->rights, replacement->descriptor, replacement->old))
         outcome = tell_errno(replacement->path, "not written, its mode cannot be kept");
     else if (fsync(replacement->descriptor) != 0)
         outcome = tell_errno(replacement->path, "not written, its temporary file cannot be brought to the disk");
@@ -96,16 +62,16 @@ static bool same_time(const struct timespec *a, const struct timespec *b)
     return a->tv_sec == b->tv_sec && a->tv_nsec == b->tv_nsec;
 }
 
-/* The file is still the one that was opened. */
-static enum outcome same_file(const struct replacement *replacement)
+/* The file is still as it was when it was locked. */
+static enum outcome unchanged(const struct replacement *replacement)
 {
     const struct stat *old = replacement->old;
     struct stat now;
 
     if (lstat(replacement->name, &now) != 0)
         return tell_errno(replacement->path, "not written, its status cannot be read");
-    if (now.st_dev != old->st_dev || now.st_ino != old->st_ino || now.st_size != old->st_size ||
-        !same_time(&now.st_mtim, &old->st_mtim) || !same_time(&now.st_ctim, &old->st_ctim))
+    if (!file_is_same(&now, old) || now.st_size != old->st_size || !same_time(&now.st_mtim, &old->st_mtim) ||
+        !same_time(&now.st_ctim, &old->st_ctim))
         return tell_failure(replacement->path, "not written, it was changed since it was read");
     return DONE;
 }
@@ -123,7 +89,7 @@ static int name_new(const struct replacement *replacement)
 /* The last look, and the one step that changes anything. */
 static enum outcome put_in_place(const struct replacement *replacement)
 {
-    enum outcome outcome = replacement->old == NULL ? DONE : same_file(replacement);
+    enum outcome outcome = replacement->old == NULL ? DONE : unchanged(replacement);
     int answer;
 
     if (outcome != DONE)
@@ -155,14 +121,6 @@ static enum outcome write_in_folder(struct replacement *replacement, const uint8
     return outcome;
 }
 
-static void tell_lost(const struct replacement *replacement, int error, const char *what)
-{
-    if (error != 0) {
-        errno = error;
-        tell_errno(replacement->path, what);
-    }
-}
-
 /* What is not sure, or not as it was, now that the file has its name. */
 static enum outcome finish(const struct replacement *replacement)
 {
@@ -170,9 +128,7 @@ static enum outcome finish(const struct replacement *replacement)
 
     if (fsync(replacement->folder_descriptor) != 0)
         outcome = tell_errno(replacement->path, "written, but its folder cannot be brought to the disk");
-    tell_lost(replacement, replacement->owner_lost, "the owner is not kept");
-    tell_lost(replacement, replacement->group_lost, "the group is not kept");
-    tell_lost(replacement, replacement->mode_lost, "its mode is for its owner alone");
+    rights_tell(&replacement->rights, replacement->path);
     return outcome;
 }
 
@@ -220,56 +176,23 @@ static bool name_places(struct replacement *replacement)
     return true;
 }
 
-enum outcome target_write(const struct target *target, const uint8_t *bytes, size_t size)
+enum outcome replace_file(const char *path, const struct stat *old, const uint8_t *bytes, size_t size)
 {
-    struct replacement replacement = {.path = target->path};
+    struct replacement replacement = {
+        .path = path,
+        .old = old,
+        .name = old == NULL ? strdup(path) : realpath(path, NULL),
+    };
     enum outcome outcome;
 
-    if (target->exists)
-        replacement.old = &target->file.status;
-    replacement.name = target->exists ? realpath(target->path, NULL) : strdup(target->path);
     if (replacement.name == NULL)
-        return tell_errno(target->path, "not written, its path cannot be resolved");
+        return tell_errno(path, "not written, its path cannot be resolved");
     if (name_places(&replacement))
         outcome = with_folder(&replacement, bytes, size);
     else
-        outcome = tell_errno(target->path, "not written, no memory for its path");
+        outcome = tell_errno(path, "not written, no memory for its path");
     free(replacement.temporary);
     free(replacement.folder);
     free(replacement.name);
-    return outcome;
-}
-
-enum outcome target_open_existing(struct target *target, const char *path)
-{
-    *target = (struct target){.path = path, .exists = true};
-    return file_open_locked(&target->file, path);
-}
-
-enum outcome target_open(struct target *target, const char *path)
-{
-    struct stat status;
-
-    if (stat(path, &status) == 0 || errno != ENOENT)
-        return target_open_existing(target, path);
-    *target = (struct target){.path = path};
-    return DONE;
-}
-
-void target_close(const struct target *target)
-{
-    if (target->exists)
-        file_close(&target->file);
-}
-
-enum outcome write_file(const char *path, const uint8_t *bytes, size_t size)
-{
-    struct target target;
-    enum outcome outcome = target_open(&target, path);
-
-    if (outcome != DONE)
-        return outcome;
-    outcome = target_write(&target, bytes, size);
-    target_close(&target);
     return outcome;
 }

@@ -34,6 +34,7 @@ static bool holds(const struct signals *signals, int number)
     return sigismember(&signals->held, number) == 1 && sigismember(&signals->before, number) == 0;
 }
 
+/* Where that cannot be asked for, it is as if one had come. */
 bool signals_came(const struct signals *signals)
 {
     sigset_t waiting;

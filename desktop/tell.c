@@ -22,7 +22,7 @@ enum outcome tell_errno(const char *subject, const char *action)
 
 enum outcome tell_written(const char *path)
 {
-    if (fflush(stdout) != 0)
+    if (fflush(stdout) != 0 || ferror(stdout) != 0)
         return tell_errno(path, "written, but the line about it cannot be printed");
     return DONE;
 }
