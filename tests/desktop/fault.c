@@ -7,6 +7,7 @@
  *   DELAY             it is done a second later
  *   CUT               the file that FAULT_FILE names is cut to 100 bytes, then the call is done
  *   SHORT             this and every later read or write moves one byte
+ * FAULT_CALLS names a file to which every call's name is added.
  */
 #include <errno.h>
 #include <fcntl.h>
@@ -70,6 +71,17 @@ static bool apply(const char *how)
     return true;
 }
 
+static void record(const char *call)
+{
+    const char *path = getenv("FAULT_CALLS");
+    FILE *file = path == NULL ? NULL : fopen(path, "a");
+
+    if (file != NULL) {
+        fprintf(file, "%s\n", call);
+        fclose(file);
+    }
+}
+
 /* One call of this name; true where it is to fail. */
 static bool fault(const char *call)
 {
@@ -77,6 +89,7 @@ static bool fault(const char *call)
     const char *wish = getenv("FAULT");
     bool fails = false;
 
+    record(call);
     for (int i = 0; wish != NULL; i++) {
         char name[16];
         char how[16];
