@@ -5,7 +5,6 @@
 #include "line.h"
 #include "number.h"
 
-#include <stdbool.h>
 #include <string.h>
 
 /* The events from one place to before another. */
@@ -17,10 +16,11 @@ struct run {
 /* Nothing is printed where one of the events is not legal. */
 static enum outcome check_legal(const struct image *image, const struct run *run)
 {
-    for (uint32_t place = run->from; place < run->end; place++)
-        if (hsc_event_check(image_event(image, place), HSC_EVENT_SIZE) != 1)
-            return tell_refusal(image->path, (uint64_t)place << 32 | HSC_REFUSED_EVENT);
-    return DONE;
+    enum outcome outcome = DONE;
+
+    for (uint32_t place = run->from; outcome == DONE && place < run->end; place++)
+        outcome = image_check_event(image, place);
+    return outcome;
 }
 
 static enum outcome print_events(const struct image *image, const struct run *run, const struct request *request)

@@ -116,6 +116,13 @@ const uint8_t *image_event(const struct image *image, uint32_t place)
     return image->bytes + HSC_HEADER_SIZE + (size_t)place * HSC_EVENT_SIZE;
 }
 
+enum outcome image_check_event(const struct image *image, uint32_t place)
+{
+    if (hsc_event_check(image_event(image, place), HSC_EVENT_SIZE) == 1)
+        return DONE;
+    return tell_refusal(image->path, (uint64_t)place << 32 | HSC_REFUSED_EVENT);
+}
+
 const uint8_t *image_snapshot(const struct image *image, uint32_t index)
 {
     return image->bytes + snapshot_offset(image->events) + (size_t)index * HSC_SNAPSHOT_SIZE;

@@ -32,6 +32,9 @@ void image_free(struct image *image);
 
 const uint8_t *image_event(const struct image *image, uint32_t place);
 
+/* Whether the event is legal; one that is not is told and refused, at its place. */
+enum outcome image_check_event(const struct image *image, uint32_t place);
+
 const uint8_t *image_snapshot(const struct image *image, uint32_t index);
 
 #endif

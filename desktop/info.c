@@ -26,12 +26,14 @@ static uint8_t kind_at(const struct image *image, uint32_t place)
 /* Counts legal events by kind; the first illegal one is refused. */
 static enum outcome count_kinds(const struct image *image, uint32_t counts[HSC_KIND_COUNT])
 {
-    for (uint32_t place = 0; place < image->events; place++) {
-        if (hsc_event_check(image_event(image, place), HSC_EVENT_SIZE) != 1)
-            return tell_refusal(image->path, (uint64_t)place << 32 | HSC_REFUSED_EVENT);
-        counts[kind_at(image, place)]++;
+    enum outcome outcome = DONE;
+
+    for (uint32_t place = 0; outcome == DONE && place < image->events; place++) {
+        outcome = image_check_event(image, place);
+        if (outcome == DONE)
+            counts[kind_at(image, place)]++;
     }
-    return DONE;
+    return outcome;
 }
 
 /* The first place from here on that is, or is not, blank; the event count where there is none. */
