@@ -50,16 +50,24 @@ static enum outcome build_from_text(const struct plan *plan, const struct conten
     return outcome;
 }
 
+/* Tells why the bytes are no row of events. */
+static enum outcome refuse_bytes(const struct contents *contents)
+{
+    fprintf(stderr, "hsc: %s: refused, ", contents->path);
+    if (contents->size / HSC_EVENT_SIZE >= HSC_MAX_EVENTS)
+        fprintf(stderr, "there are more than %d events, which is more than an image has\n", HSC_MAX_EVENTS);
+    else
+        fprintf(stderr, "there are %zu bytes, which is not a multiple of %d\n", contents->size, HSC_EVENT_SIZE);
+    return REFUSED;
+}
+
 static enum outcome build_from_bytes(const struct plan *plan, const struct contents *contents)
 {
     struct row row = {.path = contents->path, .events = contents->bytes};
     size_t count = contents->size / HSC_EVENT_SIZE;
 
-    if (contents->size % HSC_EVENT_SIZE != 0 || count > HSC_MAX_EVENTS) {
-        fprintf(stderr, "hsc: %s: refused, %zu bytes are not a row of at most %d 12-byte events\n", contents->path,
-                contents->size, HSC_MAX_EVENTS);
-        return REFUSED;
-    }
+    if (contents->size % HSC_EVENT_SIZE != 0 || count > HSC_MAX_EVENTS)
+        return refuse_bytes(contents);
     row.count = (uint32_t)count;
     return build(plan, &row);
 }

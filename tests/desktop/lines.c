@@ -14,10 +14,10 @@
 #define RANDOM_EVENTS 200000
 #define COUNT_OF(row) (sizeof(row) / sizeof(row)[0])
 
-static const int32_t VALUES[] = {INT32_MIN, INT32_MIN + 1, -65536, -32769, -32768, -2,        -1,
-                                 0,         1,             2,      3,      4,      7,         8,
-                                 15,        16,            17,     32767,  32768,  65535,     65536,
-                                 65537,     INT32_MAX - 1, INT32_MAX};
+static const int32_t VALUES[] = {
+    INT32_MIN, INT32_MIN + 1, -65536, -32769, -32768, -2,    -1,    0,     1,     2,             3,         4,
+    7,         8,             15,     16,     17,     32767, 32768, 65535, 65536, INT32_MAX - 1, INT32_MAX,
+};
 static const uint32_t STAMPS[] = {0, 1, 4095, INT32_MAX, (uint32_t)INT32_MAX + 1, UINT32_MAX - 1, UINT32_MAX};
 
 static unsigned long legal;

@@ -54,9 +54,11 @@ done
 { event 5 0 7; event 9 0 65536; } > illegal.events
 no_trace 1 'illegal.events: refused 5 at 1:' illegal.events 1
 head -c 23 two.events > odd.events
-no_trace 1 'odd.events: refused, 23 bytes are not a row of at most 1048576 12-byte events' odd.events 1
-truncate -s $((12 * 1048577)) many.events
-no_trace 1 'many.events: refused, 12582924 bytes are not a row' many.events 1
+no_trace 1 'odd.events: refused, there are 23 bytes, which is not a multiple of 12' odd.events 1
+for size in $((12 * 1048576 + 1)) $((12 * 1048577)) 1T; do
+    truncate -s "$size" many.events
+    no_trace 1 'many.events: refused, there are more than 1048576 events' many.events 1
+done
 printf 'ACC 7\nACC\n' > wrong.txt
 no_trace 1 'wrong.txt: line 2: found nothing, expected a number' wrong.txt 1
 no_trace 2 'missing: cannot be opened' missing 1

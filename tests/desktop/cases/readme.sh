@@ -6,6 +6,11 @@ transcript() {
     awk '/^```/ { inside = !inside } !inside && sub(/^    /, "")' "$1"
 }
 
+# begin_with_commands FILE: no block begins with anything else.
+begin_with_commands() {
+    awk '/^```/ { inside = !inside } !inside && /^    / && before !~ /^    / && !/^    \$ / { exit 1 } { before = $0 }' "$1"
+}
+
 # program FILE: its C program.
 program() {
     awk '/^```/ { inside = /^```c/; next } inside' "$1"
@@ -34,6 +39,7 @@ follow() {
 follow_file() {
     { transcript "$1/README.md"; echo '$ true'; } > lines
     verdict "$1/README.md has commands" [ "$(grep -c '^\$' lines)" -gt 4 ]
+    verdict "every block of $1/README.md begins with a command" begin_with_commands "$1/README.md"
     command=true
     : > wanted
     while IFS= read -r line; do

@@ -4,13 +4,13 @@ for words in --help -h help; do
     try 0 $words
     says out 'usage: hsc COMMAND'
     cp out "help$words"
-    for command in info show check replay mend help; do
+    for command in info events show state check replay mend encode build help; do
         says out "  hsc $command "
     done
 done
 same help--help help-h
 same help--help helphelp
-for command in info show check replay mend help; do
+for command in info events show state check replay mend encode build help; do
     try 0 help "$command"
     says out "usage: hsc $command "
     cp out described
@@ -40,8 +40,9 @@ for words in '' nonsense --nonsense; do
     says err 'usage: hsc COMMAND'
     verdict "hsc $words: nothing on standard output" [ ! -s out ]
 done
-for words in info replay check show mend 'info a b' 'replay a b' 'show a' 'show a 1 2' 'mend a 1' 'mend a 1 b c' \
-    'help a b' 'info -x' 'info --' 'info --check a' 'replay -o' 'replay a -o' 'mend --dry-run a 1 b --dry-run'; do
+for words in info replay check show mend events state encode build 'info a b' 'replay a b' 'show a' 'show a 1 2' \
+    'mend a 1' 'mend a 1 b c' 'events a 1 2 3' 'state a 1 2' 'encode a' 'encode a b c' 'build a 1' 'build a 1 b c' \
+    'events --gaps a' 'encode --bare a b' 'help a b' 'info -x' 'info --' 'info --check a' 'replay -o' 'replay a -o' 'mend --dry-run a 1 b --dry-run'; do
     try 2 $words
     says err "usage: hsc ${words%% *} "
     verdict "hsc $words: nothing on standard output" [ ! -s out ]
@@ -52,6 +53,14 @@ for number in '' x 1x -1 +1 ' 1' 0x1 1.0 18446744073709551616; do
     says err "FIRST: '$number' is "
     try 2 show -- two-events.trace "$number"
     says err "J: '$number' is "
+    try 2 events -- two-events.trace "$number"
+    says err "FROM: '$number' is "
+    try 2 events -- two-events.trace 0 "$number"
+    says err "COUNT: '$number' is "
+    try 2 state -- two-events.trace "$number"
+    says err "EVENT: '$number' is "
+    try 2 build -- two-events.trace "$number" out.trace
+    says err "K: '$number' is "
 done
 
 cp two-events.trace ./-dashed
