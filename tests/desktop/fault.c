@@ -3,7 +3,7 @@
  *
  * FAULT=CALL:N:HOW says what happens at the Nth call of CALL; there may be several, with a comma between. HOW is
  *   EIO, ENOSPC, ..   it fails with this errno
- *   KILL, TERM        the signal is raised, then the call is done
+ *   KILL, STOP, TERM  the signal is raised, then the call is done
  *   DELAY             it is done a second later
  *   CUT               the file that FAULT_FILE names is cut to 100 bytes, then the call is done
  *   SHORT             this and every later read or write moves one byte
@@ -25,10 +25,14 @@
 
 static bool short_moves;
 
-static const struct {
+struct name {
     const char *name;
     int number;
-} ERRORS[] = {
+};
+
+static const struct name SIGNALS[] = {{"KILL", SIGKILL}, {"STOP", SIGSTOP}, {"TERM", SIGTERM}};
+
+static const struct name ERRORS[] = {
     {"EACCES", EACCES}, {"EEXIST", EEXIST}, {"EINTR", EINTR}, {"EINVAL", EINVAL}, {"EIO", EIO},
     {"ENOMEM", ENOMEM}, {"ENOSPC", ENOSPC}, {"EPERM", EPERM}, {"EROFS", EROFS},
 };
@@ -52,9 +56,11 @@ static bool apply(const char *how)
         nanosleep(&(struct timespec){.tv_sec = 1}, NULL);
         return false;
     }
-    if (strcmp(how, "KILL") == 0 || strcmp(how, "TERM") == 0) {
-        raise(strcmp(how, "KILL") == 0 ? SIGKILL : SIGTERM);
-        return false;
+    for (size_t i = 0; i < sizeof SIGNALS / sizeof SIGNALS[0]; i++) {
+        if (strcmp(how, SIGNALS[i].name) == 0) {
+            raise(SIGNALS[i].number);
+            return false;
+        }
     }
     if (strcmp(how, "CUT") == 0) {
         if (file == NULL || truncate(file, 100) != 0)

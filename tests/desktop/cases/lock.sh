@@ -52,11 +52,19 @@ race 2 150
 race 4 100
 same race.trace turn-0.trace
 
-# meanwhile WORD..: starts the program with its last step before the rename a second later, and lets it come so far.
+# meanwhile WORD..: starts the program and stops it right before its rename.
 meanwhile() {
-    FAULT=rename:1:DELAY "$PROGRAM" "$@" > slow.out 2> slow.err &
+    FAULT=rename:1:STOP "$PROGRAM" "$@" > slow.out 2> slow.err &
     slow=$!
-    sleep 0.4
+    for i in $(seq 500); do
+        ! grep -q ') T ' "/proc/$slow/stat" 2> /dev/null || break
+        sleep 0.02
+    done
+}
+
+# soon: lets it go on when the next command has come to wait for it.
+soon() {
+    { sleep 0.3 && kill -CONT "$slow"; } &
 }
 
 # slow_is_done STATUS
@@ -66,10 +74,11 @@ slow_is_done() {
     verdict "the slow run: exit status $status" [ "$status" -eq "$1" ]
 }
 
-# The rename of one mend takes a second: the other one's edit is not lost.
+# One mend stands before its rename: the other one's edit is not lost.
 turn=1
 cp turn-0.trace race.trace
 meanwhile mend race.trace 9 patch-1-1
+soon
 try 0 mend race.trace 18 patch-1-2
 slow_is_done 0
 verdict 'the edit of the slow mend is there' edit_is_there race.trace 1
@@ -80,18 +89,21 @@ verdict 'no message that is not for a terminal' [ ! -s err ]
 ln -s race.trace link.trace
 cp turn-0.trace race.trace
 meanwhile mend link.trace 9 patch-1-1
+soon
 try 0 mend race.trace 18 patch-1-2
 slow_is_done 0
 verdict 'the edit through the link is there' edit_is_there race.trace 1
 verdict 'the edit of the other mend is there' edit_is_there race.trace 2
 { head -c $((24 + 40 * 12)) turn-0.trace; zeros $((11 * 68)); } > race.trace
 meanwhile replay race.trace
+soon
 try 0 mend --check race.trace 18 patch-1-2
 slow_is_done 0
 verdict 'the edit after the replay is there' edit_is_there race.trace 2
 try 0 check race.trace
 cp turn-0.trace race.trace
 meanwhile mend race.trace 9 patch-1-1
+soon
 try 0 replay turn-1.trace -o race.trace
 slow_is_done 0
 same race.trace turn-1.trace
@@ -100,6 +112,7 @@ same race.trace turn-1.trace
 cp turn-0.trace one.trace
 cp turn-0.trace other.trace
 meanwhile mend one.trace 9 patch-1-1 -o other.trace
+soon
 try 0 mend other.trace 9 patch-1-1 -o one.trace
 slow_is_done 0
 same one.trace other.trace
@@ -110,6 +123,7 @@ meanwhile mend race.trace 9 patch-1-1
 try 0 check race.trace
 try 0 mend --dry-run race.trace 18 patch-1-2
 same race.trace turn-0.trace
+kill -CONT "$slow"
 slow_is_done 0
 
 # The lock dies with its process.
@@ -125,6 +139,8 @@ rm -f .hsc-*
 if command -v script > /dev/null; then
     cp turn-0.trace race.trace
     meanwhile mend race.trace 9 patch-1-1
+    : > out
+    { for i in $(seq 100); do ! grep -q waiting out || break; sleep 0.1; done && kill -CONT "$slow"; } &
     script -q -e -c "$PROGRAM mend race.trace 18 patch-1-2" /dev/null < /dev/null > out 2> err
     verdict 'the wait on a terminal' [ $? -eq 0 ]
     verdict 'the wait is told once' [ "$(grep -c 'race.trace: waiting until another program has' out)" -eq 1 ]

@@ -27,41 +27,52 @@ another_chance() {
     chance=$(((chance * 1103515245 + 12345) % 2147483648))
 }
 
-# judge SIGNAL: one run that got the signal: the file is new, status 0 and the line is told; or it is as it was, and the
-# program was ended by the signal.
+# as_it_was FILE: it has its old bytes, or is not there yet.
+as_it_was() {
+    if [ "$1" = night.trace ]; then cmp -s night.trace old.trace; else [ ! -e "$1" ]; fi
+}
+
+# judge SIGNAL FILE: one run that got the signal: the file is new, status 0 and the line is told; or it is as it was,
+# and the program was ended by the signal.
 judge() {
-    if cmp -s night.trace new.trace; then
-        after=$((after + 1))
-        [ "$status" -eq 0 ] && sed '2,$d' out | cmp -s - line || silent=$((silent + 1))
-    elif cmp -s night.trace old.trace; then
+    if as_it_was "$2"; then
         before=$((before + 1))
         [ "$status" -eq $((128 + $1)) ] || wrong=$((wrong + 1))
     else
-        wrong=$((wrong + 1))
+        after=$((after + 1))
+        cmp -s "$2" new.trace || wrong=$((wrong + 1))
+        [ "$status" -eq 0 ] && sed '2,$d' out | cmp -s - line || silent=$((silent + 1))
     fi
     no_temporary || left=$((left + 1))
-    rm -f .hsc-*
 }
 
-rounds=300 before=0 after=0 silent=0 wrong=0 left=0
-for round in $(seq "$rounds"); do
-    case $((round % 3)) in
-    0) signal=1 ;;
-    1) signal=2 ;;
-    *) signal=15 ;;
-    esac
-    another_chance
-    cp old.trace night.trace
-    status=0
-    ./interrupt "$signal" $((chance / 256 % takes)) "$PROGRAM" replay night.trace > out 2> err || status=$?
-    judge "$signal"
-done
-echo "signals: $rounds sent, $before before the rename and $after later; $silent silent changes, $left temporary files"
-: > err
-verdict "$silent runs changed the file and did not tell it" [ "$silent" -eq 0 ]
-verdict "$wrong runs ended in another way" [ "$wrong" -eq 0 ]
-verdict "$left runs left a temporary file" [ "$left" -eq 0 ]
-verdict 'some signals came before the rename' [ "$before" -gt 0 ]
+# signals ROUNDS FILE WORD..: a signal in each run of the program, which writes the file.
+signals() {
+    rounds=$1 file=$2 before=0 after=0 silent=0 wrong=0 left=0
+    shift 2
+    for round in $(seq "$rounds"); do
+        case $((round % 3)) in
+        0) signal=1 ;;
+        1) signal=2 ;;
+        *) signal=15 ;;
+        esac
+        another_chance
+        rm -f .hsc-* made.trace
+        cp old.trace night.trace
+        status=0
+        ./interrupt "$signal" $((chance / 256 % takes)) "$PROGRAM" "$@" > out 2> err || status=$?
+        judge "$signal" "$file"
+    done
+    echo "signals: $rounds sent, $before before the rename, $after later; $silent silent changes, $left temporary files"
+    : > err
+    verdict "hsc $*: $silent runs changed the file and did not tell it" [ "$silent" -eq 0 ]
+    verdict "hsc $*: $wrong runs ended in another way" [ "$wrong" -eq 0 ]
+    verdict "hsc $*: $left runs left a temporary file" [ "$left" -eq 0 ]
+    verdict "hsc $*: some signals came before the rename" [ "$before" -gt 0 ]
+}
+
+signals 200 night.trace replay night.trace
+signals 100 made.trace replay night.trace -o made.trace
 
 # A reader of standard output that has gone away: the file is written, and that the line is lost is told.
 for words in 'replay night.trace' 'mend night.trace 0 one-event.patch' 'replay night.trace -o other.trace'; do
