@@ -11,7 +11,7 @@
 
 static bool is_separator(char character)
 {
-    return character != '\0' && strchr(" \t,;\r", character) != NULL;
+    return character != '\0' && strchr(" \t\r,;\"", character) != NULL;
 }
 
 struct word cursor_next(struct cursor *cursor)

@@ -21,8 +21,8 @@ struct word {
 };
 
 /*
- * The next word. Blanks, tabs, commas, semicolons and carriage returns stand between words; what follows a number sign
- * is no part of the line.
+ * The next word. Blanks, tabs, commas, semicolons, double quotes and carriage returns stand between words; what follows
+ * a number sign is no part of the line.
  */
 struct word cursor_next(struct cursor *cursor);
 

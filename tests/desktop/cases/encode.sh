@@ -1,7 +1,7 @@
 # hsc encode, and the text of events, hsc-events(5).
 
 # Comments, empty lines, the marks of spreadsheets, capitals or not, numbers in either notation.
-printf '\357\273\277# a night\r\n\r\nstage,HIP,400,,\r\nSTAGE;lop;-1\r\n\tOutputs 0xFFFF # all\r\n  acc +0012\n  ;,\ndone' \
+printf '\357\273\277"# a night, as counted"\r\n\r\n"stage",HIP,"400",,\r\nSTAGE;lop;-1\r\n\tOutputs 0xFFFF # all\r\n  acc +0012\n  ;,\ndone' \
     > night.txt
 { event 2 1 400; event 2 2 -1; event 9 0 65535; event 5 0 12; event 7 0 0; } > wanted.patch
 keep night.txt try 0 encode night.txt night.patch
