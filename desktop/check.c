@@ -1,63 +1,70 @@
-/* hsc check: whether an image's table is true, that is, what replay would write. */
+/* hsc check: whether the tables of images are true, that is, what replay would write. */
 #include "command.h"
 #include "hsc.h"
 #include "image.h"
+#include "layout.h"
+#include "table.h"
 
-#include <fcntl.h>
 #include <inttypes.h>
+#include <stdbool.h>
 #include <stdio.h>
-#include <stdlib.h>
-#include <string.h>
 
-/* Compares the image, which is replayed, with the table that it had. */
-static enum outcome compare(const struct image *image, const uint8_t *table)
+static void print_differences(const struct image *image, const struct comparison *comparison)
 {
-    uint32_t different = 0;
-    uint32_t first = 0;
+    int32_t fields[HSC_FIELD_COUNT];
 
-    for (uint32_t j = image->snapshots; j-- > 0;) {
-        if (memcmp(image_snapshot(image, j), table + (size_t)j * HSC_SNAPSHOT_SIZE, HSC_SNAPSHOT_SIZE) != 0) {
-            first = j;
-            different++;
-        }
-    }
-    if (different == 0) {
-        printf("true: all %" PRIu32 " snapshots\n", image->snapshots);
-        return DONE;
-    }
-    printf("not true: snapshot %" PRIu32 " differs first, %" PRIu32 " of %" PRIu32 " differ\n", first, different,
-           image->snapshots);
-    return REFUSED;
+    printf("not true: ");
+    table_print_difference(stdout, image, comparison);
+    printf("\n");
+    layout_print_differences(comparison->stored, image_snapshot(image, comparison->first));
+    if (hsc_read(comparison->stored, HSC_SNAPSHOT_SIZE, fields) != HSC_DONE)
+        printf("  the stored snapshot is not well formed\n");
 }
 
-static enum outcome check(const struct image *image, uint8_t *table, size_t size)
+/* named: the line begins with the image's path. */
+static enum outcome check(const struct image *image, bool named)
 {
-    uint8_t last[HSC_SNAPSHOT_SIZE];
-    uint64_t status;
-
-    memcpy(table, image_snapshot(image, 0), size);
-    status = hsc_replay(image->bytes, image->size, last);
-    if (status != 0)
-        return tell_refusal(image->path, status);
-    return compare(image, table);
-}
-
-enum outcome command_check(char *const *operands)
-{
-    struct image image;
-    uint8_t *table;
-    size_t size;
-    enum outcome outcome = image_load(&image, operands[0], O_RDONLY);
+    struct comparison comparison;
+    enum outcome outcome = table_replay(image, &comparison);
 
     if (outcome != DONE)
         return outcome;
-    size = (size_t)image.snapshots * HSC_SNAPSHOT_SIZE;
-    table = malloc(size);
-    if (table == NULL)
-        outcome = tell_errno(image.path, "no memory for the table");
-    else
-        outcome = check(&image, table, size);
-    free(table);
+    if (named)
+        printf("%s: ", image->path);
+    if (comparison.different == 0) {
+        printf("true: all %" PRIu32 " snapshots\n", image->snapshots);
+        return DONE;
+    }
+    print_differences(image, &comparison);
+    return NOT_TRUE;
+}
+
+static enum outcome check_file(const char *path, bool named)
+{
+    struct image image;
+    enum outcome outcome = image_load(&image, path);
+
+    if (outcome != DONE)
+        return outcome;
+    outcome = check(&image, named);
     image_free(&image);
+    return outcome;
+}
+
+/* A failure goes before a refusal, and a refusal before a table that is not true. */
+static enum outcome worse(enum outcome one, enum outcome other)
+{
+    static const int RANKS[] = {[DONE] = 0, [NOT_TRUE] = 1, [REFUSED] = 2, [FAILED] = 3};
+
+    _Static_assert(sizeof RANKS / sizeof RANKS[0] == OUTCOME_COUNT, "a rank for every outcome");
+    return RANKS[one] > RANKS[other] ? one : other;
+}
+
+enum outcome command_check(const struct request *request)
+{
+    enum outcome outcome = DONE;
+
+    for (int i = 0; i < request->operand_count; i++)
+        outcome = worse(outcome, check_file(request->operands[i], request->operand_count > 1));
     return outcome;
 }

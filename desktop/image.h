@@ -1,7 +1,8 @@
-/* A trace image in memory, read from its file and written back whole. */
+/* A trace image in memory, read from its file. */
 #ifndef IMAGE_H
 #define IMAGE_H
 
+#include "file.h"
 #include "tell.h"
 
 #include <stddef.h>
@@ -20,17 +21,19 @@ struct image {
 
 /*
  * Reads an image to which none of refusals 1 to 4 applies; events and snapshots are not looked at. A file of the wrong
- * length is refused when its header has been read, whatever its size. flags: O_RDONLY, or O_RDWR where image_write is
- * to follow. Where it is done, image_free is owed.
+ * length is refused when its header has been read, whatever its size. Where it is done, image_free is owed.
  */
-enum outcome image_load(struct image *image, const char *path, int flags);
+enum outcome image_read(struct image *image, const struct file *file);
 
-/* Puts the image's bytes in the place of its file. */
-enum outcome image_write(const struct image *image);
+/* The same of the file of this path, or of standard input. */
+enum outcome image_load(struct image *image, const char *path);
 
 void image_free(struct image *image);
 
 const uint8_t *image_event(const struct image *image, uint32_t place);
+
+/* Whether the event is legal; one that is not is told and refused, at its place. */
+enum outcome image_check_event(const struct image *image, uint32_t place);
 
 const uint8_t *image_snapshot(const struct image *image, uint32_t index);
 

@@ -1,45 +1,39 @@
 /* hsc: the desk's program over the library. Finds the command and sees that what it printed was written. */
 #include "command.h"
+#include "help.h"
 #include "hsc.h"
+#include "request.h"
 #include "tell.h"
 
 #include <fcntl.h>
+#include <inttypes.h>
 #include <signal.h>
 #include <stdio.h>
 #include <string.h>
 #include <unistd.h>
 
-struct command {
-    const char *name;
-    const char *operands;
-    int operand_count;
-    const char *purpose;
-    enum outcome (*run)(char *const *operands);
-};
-
-static const struct command COMMANDS[] = {
-    {"info", "IMAGE", 1, "print the header, the events by kind and the gaps", command_info},
-    {"replay", "IMAGE", 1, "write every snapshot anew and print the final state", command_replay},
-    {"mend", "IMAGE FIRST PATCH", 3, "put PATCH over the events from FIRST and mend the table", command_mend},
-    {"show", "IMAGE J", 2, "print snapshot J in words", command_show},
-    {"check", "IMAGE", 1, "tell whether the table is true, or which snapshot differs first", command_check},
-};
-
-#define COMMAND_COUNT (sizeof COMMANDS / sizeof COMMANDS[0])
-
-static void print_usage(FILE *stream)
+/* What is wrong with the command's words is told; these are the right ones. */
+static enum outcome wrong_words(const struct command *command)
 {
-    fprintf(stream, "usage: hsc COMMAND OPERAND..., or hsc --help, hsc --version\n");
-    for (size_t i = 0; i < COMMAND_COUNT; i++)
-        fprintf(stream, "  hsc %-6s %-17s  %s\n", COMMANDS[i].name, COMMANDS[i].operands, COMMANDS[i].purpose);
+    print_command_usage(stderr, command);
+    return FAILED;
 }
 
-static enum outcome print_help(void)
+static enum outcome run_command(const struct command *command, int count, char **words)
 {
-    print_usage(stdout);
-    printf("IMAGE is a trace image, PATCH a file of 12-byte events; FIRST and J count from 0.\n"
-           "Exit status: 0 done, 1 refused (check: also a table that is not true), 2 usage or system error.\n");
-    return DONE;
+    struct request request;
+
+    if (request_parse(&request, command->options, count, words) != DONE)
+        return wrong_words(command);
+    if (request_has(&request, OPTION_HELP)) {
+        print_command_help(command);
+        return DONE;
+    }
+    if (request.operand_count < command->least || request.operand_count > command->most) {
+        tell_failure(command->name, "wrong number of operands");
+        return wrong_words(command);
+    }
+    return command->run(&request);
 }
 
 static enum outcome wrong_usage(const char *subject, const char *reason)
@@ -49,35 +43,34 @@ static enum outcome wrong_usage(const char *subject, const char *reason)
     return FAILED;
 }
 
-static enum outcome run_command(const struct command *command, int count, char *const *operands)
+static enum outcome run(int count, char **words)
 {
-    if (count > 0 && strcmp(operands[0], "--help") == 0)
-        return print_help();
-    if (count > 0 && strcmp(operands[0], "--") == 0) {
-        count--;
-        operands++;
-    } else if (count > 0 && operands[0][0] == '-') {
-        return wrong_usage(operands[0], "no such option");
-    }
-    if (count != command->operand_count)
-        return wrong_usage(command->name, "wrong number of operands");
-    return command->run(operands);
-}
+    const struct command *command;
 
-static enum outcome run(int count, char *const *words)
-{
     if (count < 2)
         return wrong_usage("usage", "a command is missing");
-    if (strcmp(words[1], "--help") == 0)
-        return print_help();
+    if (strcmp(words[1], "--help") == 0 || strcmp(words[1], "-h") == 0) {
+        print_help();
+        return DONE;
+    }
     if (strcmp(words[1], "--version") == 0) {
         printf("hsc %s\n", HSC_VERSION);
         return DONE;
     }
-    for (size_t i = 0; i < COMMAND_COUNT; i++)
-        if (strcmp(words[1], COMMANDS[i].name) == 0)
-            return run_command(&COMMANDS[i], count - 2, words + 2);
-    return wrong_usage(words[1], "no such command");
+    command = command_find(words[1]);
+    if (command == NULL)
+        return wrong_usage(words[1], "no such command");
+    return run_command(command, count - 2, words + 2);
+}
+
+/* The library's calls are those of the header only where both are of one version. */
+static enum outcome check_version(void)
+{
+    if (hsc_version() == HSC_VERSION_NUMBER)
+        return DONE;
+    fprintf(stderr, "hsc: built for library version %d, but linked with %" PRIu32 "\n", HSC_VERSION_NUMBER,
+            hsc_version());
+    return FAILED;
 }
 
 /* Fills the places of standard streams that are closed, so that no file of ours stands there; writing to them fails. */
@@ -122,6 +115,8 @@ int main(int count, char **words)
 
     if (outcome == DONE)
         outcome = ignore_size_signal();
+    if (outcome == DONE)
+        outcome = check_version();
     if (outcome == DONE)
         outcome = run(count, words);
     outcome = finish_output(outcome);

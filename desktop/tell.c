@@ -20,6 +20,22 @@ enum outcome tell_errno(const char *subject, const char *action)
     return FAILED;
 }
 
+enum outcome tell_written(const char *path)
+{
+    if (fflush(stdout) != 0 || ferror(stdout) != 0)
+        return tell_errno(path, "written, but the line about it cannot be printed");
+    return DONE;
+}
+
+enum outcome tell_no_such(const char *path, const char *thing, uint64_t index, uint64_t count)
+{
+    fprintf(stderr, "hsc: %s: there is no %s %" PRIu64, path, thing, index);
+    if (count > 0)
+        fprintf(stderr, ", only %ss 0 to %" PRIu64, thing, count - 1);
+    fprintf(stderr, "\n");
+    return FAILED;
+}
+
 static const char *refusal_words(uint32_t number)
 {
     switch (number) {

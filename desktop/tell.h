@@ -8,7 +8,9 @@
 enum outcome {
     DONE = 0,
     REFUSED = 1,
-    FAILED = 2
+    FAILED = 2,
+    NOT_TRUE = 3,
+    OUTCOME_COUNT = 4
 };
 
 /* Tells in words why something failed, and answers FAILED. */
@@ -16,6 +18,12 @@ enum outcome tell_failure(const char *subject, const char *reason);
 
 /* Tells which action on the subject failed, with the text of errno, and answers FAILED. */
 enum outcome tell_errno(const char *subject, const char *action);
+
+/* Sees that what was printed about the file that was written is printed, or tells that it is written all the same. */
+enum outcome tell_written(const char *path);
+
+/* Tells that the image has nothing at this index: its things count from 0 to count - 1. Answers FAILED. */
+enum outcome tell_no_such(const char *path, const char *thing, uint64_t index, uint64_t count);
 
 /* Tells a refusal in words, with its number and place, and answers REFUSED. */
 enum outcome tell_refusal(const char *subject, uint64_t status);

@@ -25,7 +25,12 @@
 #include <stddef.h>
 #include <stdint.h>
 
-#define HSC_VERSION "0.1.0"
+/*
+ * The version of this header: in words, and as one number, major * 10000 + minor * 100 + patch. A program compares the
+ * number with hsc_version() at its start, to see that header and archive belong together.
+ */
+#define HSC_VERSION "0.1.1"
+#define HSC_VERSION_NUMBER 101
 
 #define HSC_HEADER_SIZE 24
 #define HSC_EVENT_SIZE 12
@@ -34,6 +39,8 @@
 /* The most events of an image, and the widest spacing of its snapshots. */
 #define HSC_MAX_EVENTS 1048576
 #define HSC_MAX_SPACING 4096
+
+#define HSC_INPUT_COUNT 4
 
 /* A refusal: its number, and what its place counts. */
 enum hsc_refusal {
@@ -46,16 +53,17 @@ enum hsc_refusal {
     HSC_REFUSED_SNAPSHOT = 6,    /* a snapshot that must be read is not well formed; place: its index */
     HSC_REFUSED_PATCH = 7,       /* patch length not a multiple of 12, or first + n > E; place 0 */
     HSC_REFUSED_PATCH_EVENT = 8, /* illegal event in the patch; place: the first such, in the patch */
-    HSC_REFUSED_SIZE = 9         /* snapshot not 68 bytes or event not 12; place 0 */
+    HSC_REFUSED_SIZE = 9,        /* snapshot not 68 bytes or event not 12; place 0 */
+    HSC_REFUSAL_COUNT = 10
 };
 
 /* An event's kind, its byte 0. */
 enum hsc_kind {
     HSC_BLANK = 0,
     HSC_INPUT_SAMPLE = 1, /* value 0-15, bit n is input n */
-    HSC_STAGED_WRITE = 2, /* sub: 1 HIP, 2 LOP, 3 OVF, 4 UNF, 5 HPO, 6 LPO */
-    HSC_DEVICE_WRITE = 3, /* programming device; sub: 1 PFN, 2 MOD, 3 OMB, 4 AS */
-    HSC_FLAG_WRITE = 4,   /* sub: the flag's bit */
+    HSC_STAGED_WRITE = 2, /* sub: enum hsc_staged_sub */
+    HSC_DEVICE_WRITE = 3, /* programming device; sub: enum hsc_device_sub */
+    HSC_FLAG_WRITE = 4,   /* sub: the flag's bit, enum hsc_flag */
     HSC_ACC_WRITE = 5,
     HSC_PRESET_LOAD = 6,
     HSC_ROUTINE_DONE = 7,
@@ -64,13 +72,56 @@ enum hsc_kind {
     HSC_KIND_COUNT = 10
 };
 
+/* What a staged write writes, its byte 1. */
+enum hsc_staged_sub {
+    HSC_STAGED_HIP = 1,
+    HSC_STAGED_LOP = 2,
+    HSC_STAGED_OVF = 3,
+    HSC_STAGED_UNF = 4,
+    HSC_STAGED_HPO = 5, /* 0-65535 */
+    HSC_STAGED_LPO = 6  /* 0-65535 */
+};
+
+/* What the programming device writes, its byte 1. */
+enum hsc_device_sub {
+    HSC_DEVICE_PFN = 1, /* -32768 to 32767 */
+    HSC_DEVICE_MOD = 2, /* -32768 to 32767 */
+    HSC_DEVICE_OMB = 3, /* 0-65535 */
+    HSC_DEVICE_AS = 4   /* 0 or 1 */
+};
+
 /* A cause of interrupts, running or waiting. */
 enum hsc_cause {
     HSC_NO_CAUSE = 0,
     HSC_LOW_PRESET = 1,
     HSC_HIGH_PRESET = 2,
     HSC_UNDERFLOW = 3,
-    HSC_OVERFLOW = 4
+    HSC_OVERFLOW = 4,
+    HSC_CAUSE_COUNT = 5
+};
+
+/* The counting mode, an active MOD; each odd one is the mode before it with reset (input 2) and hold (input 3). */
+enum hsc_mode {
+    HSC_MODE_UP = 0,
+    HSC_MODE_UP_HELD = 1,
+    HSC_MODE_DIRECTION = 2,
+    HSC_MODE_DIRECTION_HELD = 3,
+    HSC_MODE_UP_DOWN = 4,
+    HSC_MODE_UP_DOWN_HELD = 5,
+    HSC_MODE_QUADRATURE = 6,
+    HSC_MODE_QUADRATURE_HELD = 7,
+    HSC_MODE_COUNT = 8
+};
+
+/* ER: the rule of loading that was broken first. */
+enum hsc_error {
+    HSC_ER_NONE = 0,
+    HSC_ER_PFN = 1, /* PFN is 3 to 255 */
+    HSC_ER_MOD = 2, /* MOD is 0 to 7 */
+    HSC_ER_HIP = 3, /* modes 0, 1: HIP > 0; modes 2 to 7: HIP > LOP */
+    HSC_ER_OVF = 4, /* HIP <= OVF */
+    HSC_ER_LOP = 5, /* modes 2 to 7: LOP >= UNF */
+    HSC_ER_COUNT = 6
 };
 
 /* Indices into the fields of hsc_read; a setting is fields[HSC_STAGED + HSC_HIP], fields[HSC_ACTIVE + HSC_HIP]. */
@@ -145,9 +196,15 @@ static inline uint32_t hsc_place(uint64_t status)
     return (uint32_t)(status >> 32);
 }
 
+/* The version of the archive, as HSC_VERSION_NUMBER is that of the header. */
+uint32_t hsc_version(void);
+
 /* The calls that answer a status answer 0 where they are done. On a refusal every lent buffer is as it was. */
 
-/* Whether the event is legal: 1 yes, 0 no, 9 (HSC_REFUSED_SIZE) if it is not 12 bytes. Writes nothing. */
+/*
+ * Whether the event is legal: 1 yes, 0 no, 9 (HSC_REFUSED_SIZE) if it is not 12 bytes. Writes nothing.
+ * 9 is not yes: compare the answer with 1, never take it for a truth value.
+ */
 uint32_t hsc_event_check(const uint8_t *event, size_t event_len);
 
 /*

@@ -217,7 +217,12 @@ static void images(void) {
     check("and the image and the span are as they were", memcmp(image, expected, IMAGE) == 0 && span[0] == 1 && span[1] == 1);
 }
 
+static void version(void) {
+    check("header and archive are of one version", hsc_version() == HSC_VERSION_NUMBER);
+}
+
 int main(void) {
+    version();
     events();
     steps();
     refusals();

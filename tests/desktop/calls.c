@@ -1,4 +1,4 @@
-/* The five calls through the header, as C and as C++: each done and refused, with guard bytes behind what is lent. */
+/* The six calls through the header, as C and as C++: each done and refused, with guard bytes behind what is lent. */
 #include "hsc.h"
 
 #include <stdio.h>
@@ -96,6 +96,7 @@ int main(int count, char **words)
         return 2;
     }
     fclose(file);
+    expect(hsc_version() == HSC_VERSION_NUMBER, "header and archive are of one version");
     check_events();
     check_single(image + HSC_HEADER_SIZE + 2 * HSC_EVENT_SIZE);
     check_image(image);

@@ -5,3 +5,4 @@ pub mod mending;
 pub mod reading;
 pub mod replaying;
 pub mod stepping;
+pub mod version;

@@ -14,8 +14,8 @@ else
     skip 'no C++ compiler'
 fi
 
-verdict 'the archive has the five calls' [ "$(nm -g --defined-only "$archive" 2> /dev/null |
-    grep -c -E ' T hsc_(event_check|step|read|replay|mend)$')" -eq 5 ]
+verdict 'the archive has the six calls' [ "$(nm -g --defined-only "$archive" 2> /dev/null |
+    grep -c -E ' T hsc_(version|event_check|step|read|replay|mend)$')" -eq 6 ]
 
 # The examples are what their script writes.
 cp "$root"/examples/make "$root"/examples/image.sh .

@@ -2,40 +2,99 @@
 
 { head -c 48 two-events.trace; zeros $((3 * 68)); } > old.trace
 cp two-events.trace new.trace
+{ header 2 1; event 5 0 9; event 9 0 3; snapshot 0 0; snapshot 9 0; snapshot 9 3; } > nine.trace
+echo 'not an image' > words.trace
 
-# prepare: the image with its old bytes, and no temporary file.
+echo 'ACC 9' > nine.text
+printf '0 ACC 9\n1 outputs 3\n' > two.text
+head -c 48 two-events.trace | tail -c 24 > two.events
+
+# writes FILE OLD NEW: what the next commands write; OLD is none where they make the file.
+writes() {
+    written=$1 old=$2 new=$3
+}
+
+# prepare: the files as they are before a command, and no temporary file.
 prepare() {
-    rm -f .hsc-*
+    rm -f .hsc-* other.trace made.*
     cp old.trace night.trace
+    [ "$old" = none ] || cp "$old" "$written"
 }
 
-# old_or_new: the image is whole, as it was or as it is to be.
-old_or_new() {
-    cmp -s night.trace old.trace || cmp -s night.trace new.trace
+# as_it_was: the file that is written has its old bytes, or is not there yet.
+as_it_was() {
+    if [ "$old" = none ]; then [ ! -e "$written" ]; else cmp -s "$written" "$old"; fi
 }
 
-# Every call, the first ones of its name: the image is whole; a run that is done has replaced it, and one that is not
-# says so in words.
-for call in $FAULTY; do
-    for count in 1 2 3 4 5 6; do
-        prepare
-        status=0
-        FAULT=$call:$count:EIO "$PROGRAM" replay night.trace > out 2> err || status=$?
-        verdict "$call $count fails: the image is whole" old_or_new
-        case $status in
-        0) verdict "$call $count fails, the run is done: the image is new" cmp -s night.trace new.trace ;;
-        2) says err 'hsc: ' ;;
-        *) verdict "$call $count fails: exit status $status" false ;;
-        esac
-        verdict "$call $count fails: no temporary file" no_temporary
+# whole: it is as it was or as it is to be.
+whole() {
+    as_it_was || cmp -s "$written" "$new"
+}
 
-        prepare
-        status=0
-        FAULT=$call:$count:KILL "$PROGRAM" replay night.trace > out 2> err || status=$?
-        verdict "killed before $call $count: the image is whole" old_or_new
-        [ "$count" -gt 1 ] || [ "$call" = unlink ] || verdict "killed before $call" [ "$status" -eq 137 ]
+# none_or_told: no temporary file stays, but one that could not be removed and is told.
+none_or_told() {
+    no_temporary || grep -q '\.hsc-.*: cannot be removed' err
+}
+
+# one_fault HOW WORD..: runs the program while the call goes wrong; its exit status is in status.
+one_fault() {
+    prepare
+    status=0
+    one_how=$1
+    shift
+    FAULT=$call:$count:$one_how "$PROGRAM" "$@" > out 2> err || status=$?
+    verdict "hsc $*, $call $count: $one_how: $written is whole" whole
+}
+
+# each_fault WORD..: every call of the run fails, and is the last before a crash. The file is whole; a run that is done
+# has written it, and one that is not says so in words.
+: > made
+each_fault() {
+    prepare
+    rm -f calls
+    FAULT_CALLS=calls "$PROGRAM" "$@" > out 2> err
+    verdict "hsc $*: done" [ $? -eq 0 ]
+    cat calls >> made
+    for call in $(sort -u calls); do
+        for count in $(seq "$(grep -c -x "$call" calls)"); do
+            one_fault KILL "$@"
+            verdict "hsc $*, killed before $call $count: exit status $status" [ "$status" -eq 137 ]
+            one_fault EIO "$@"
+            case $status in
+            0) verdict "hsc $*, $call $count fails, the run is done: $written is new" cmp -s "$written" "$new" ;;
+            2) says err 'hsc: ' ;;
+            *) verdict "hsc $*, $call $count fails: exit status $status" false ;;
+            esac
+            verdict "hsc $*, $call $count fails: no temporary file, or one that is told" none_or_told
+        done
     done
+}
+
+writes other.trace none new.trace
+each_fault replay night.trace -o other.trace
+writes other.trace words.trace new.trace
+each_fault replay -o other.trace night.trace
+writes night.trace new.trace nine.trace
+each_fault mend --check night.trace 0 one-event.patch
+writes night.trace old.trace new.trace
+each_fault replay night.trace
+writes made.patch none one-event.patch
+each_fault encode nine.text made.patch
+writes made.trace none nine.trace
+each_fault build two.text 1 made.trace
+writes made.trace words.trace new.trace
+each_fault build two.events 1 made.trace
+for call in $FAULTY; do
+    verdict "a writer calls $call" grep -q -x "$call" made
 done
+
+# The commands that only print.
+writes night.trace new.trace new.trace
+for words in 'info night.trace' 'events night.trace' 'show night.trace 1' 'state night.trace 1' 'check night.trace' \
+    'replay night.trace' 'mend --dry-run night.trace 0 one-event.patch'; do
+    each_fault $words
+done
+writes night.trace old.trace new.trace
 
 # fails CALL:N:ERRNO TEXT: replay fails with these words and leaves the image.
 fails() {
@@ -49,16 +108,22 @@ fails fstat:1:EIO 'night.trace: status cannot be read: Input/output error'
 fails read:1:EIO 'night.trace: cannot be read: Input/output error'
 fails read:2:EIO 'night.trace: cannot be read: Input/output error'
 fails malloc:1:ENOMEM 'night.trace: no memory for the image: Cannot allocate memory'
-fails realpath:1:EACCES 'not replaced, its path cannot be resolved: Permission denied'
-fails malloc:3:ENOMEM 'not replaced, no memory for its path: Cannot allocate memory'
-fails open:3:EACCES 'not replaced, its folder cannot be opened: Permission denied'
-fails mkstemp:1:EROFS 'not replaced, no temporary file can be made in its folder: Read-only file system'
-fails write:1:ENOSPC 'not replaced, its temporary file cannot be written: No space left on device'
-fails fchmod:1:EPERM 'not replaced, its mode cannot be kept: Operation not permitted'
-fails fsync:1:EIO 'not replaced, its temporary file cannot be brought to the disk: Input/output error'
-fails close:3:ENOSPC 'not replaced, its temporary file cannot be closed: No space left on device'
-fails lstat:1:EIO 'not replaced, its status cannot be read: Input/output error'
-fails rename:1:ENOSPC 'not replaced, its temporary file cannot be renamed: No space left on device'
+fails fcntl:1:EIO 'night.trace: cannot be locked: Input/output error'
+fails fstat:2:EIO 'night.trace: status cannot be read: Input/output error'
+fails stat:1:EACCES 'night.trace: the file of this name cannot be found again: Permission denied'
+fails malloc:2:ENOMEM 'night.trace: no memory for the table: Cannot allocate memory'
+fails realpath:1:EACCES 'not written, its path cannot be resolved: Permission denied'
+fails malloc:4:ENOMEM 'not written, no memory for its path: Cannot allocate memory'
+fails open:3:EACCES 'not written, its folder cannot be opened: Permission denied'
+fails mkstemp:1:EROFS 'not written, no temporary file can be made in its folder: Read-only file system'
+fails write:1:ENOSPC 'not written, its temporary file cannot be written: No space left on device'
+fails fchmod:1:EPERM 'not written, its mode cannot be kept: Operation not permitted'
+fails fsync:1:EIO 'not written, its temporary file cannot be brought to the disk: Input/output error'
+fails close:2:ENOSPC 'not written, its temporary file cannot be closed: No space left on device'
+fails lstat:1:EIO 'not written, its status cannot be read: Input/output error'
+fails sigaction:2:EIO 'not written, signals cannot be held: Input/output error'
+fails sigpending:1:EIO 'not written, a signal came first'
+fails rename:1:ENOSPC 'not written, its temporary file cannot be given its name: No space left on device'
 
 # What cannot be removed is told by its name.
 prepare
@@ -70,7 +135,7 @@ verdict 'the temporary file stays' [ "$(find . -name '.hsc-*' | wc -l)" -eq 1 ]
 # After the rename the image is new, and what is not sure is told.
 prepare
 faulty fsync:2:EIO try 2 replay night.trace
-says err 'replaced, but its folder cannot be brought to the disk: Input/output error'
+says err 'written, but its folder cannot be brought to the disk: Input/output error'
 same night.trace new.trace
 
 # An owner that cannot be kept is told and is no failure. A new group may do no more than others could.
@@ -80,9 +145,17 @@ faulty fchown:1:EPERM try 0 replay night.trace
 says err 'the owner is not kept: Operation not permitted'
 same night.trace new.trace
 verdict 'the mode stays' [ "$(stat -c %a night.trace)" = 764 ]
+cp old.trace night.trace
 faulty fchown:1:EPERM,fchown:2:EPERM try 0 replay night.trace
 says err 'the group is not kept: Operation not permitted'
 verdict 'the group has what it and others had' [ "$(stat -c %a night.trace)" = 744 ]
+
+# A file that is not written: that is told first, and of its owner nothing.
+prepare
+keep night.trace faulty fchown:1:EPERM,fchown:2:EPERM,rename:1:EIO try 2 replay night.trace
+verdict 'the failure is told first' [ "$(head -n 1 err)" = \
+    'hsc: night.trace: not written, its temporary file cannot be given its name: Input/output error' ]
+verdict 'the owner is not told' [ "$(grep -c 'not kept' err)" -eq 0 ]
 
 # Interrupted and short moves are gone on with.
 for fault in read:1:EINTR read:2:EINTR write:1:EINTR read:1:SHORT write:1:SHORT; do
@@ -93,12 +166,18 @@ for fault in read:1:EINTR read:2:EINTR write:1:EINTR read:1:SHORT write:1:SHORT;
     faulty "$fault" try 0 check night.trace
 done
 
-# A signal waits until the image is replaced.
-for call in write fsync rename; do
+# A signal before the rename: the image is as it was. One that comes later waits until the line is told.
+for fault in mkstemp:1:TERM write:1:TERM fsync:1:TERM lstat:1:TERM; do
     prepare
-    faulty "$call:1:TERM" try 143 replay night.trace
+    keep night.trace faulty "$fault" try 143 replay night.trace
+    says err 'not written, a signal came first'
+done
+for fault in rename:1:TERM fsync:2:TERM; do
+    prepare
+    faulty "$fault" try 0 replay night.trace
+    says out 'events 2 snapshots 3'
     same night.trace new.trace
-    verdict "SIGTERM at $call: no temporary file" no_temporary
+    verdict "$fault: no temporary file" no_temporary
 done
 
 # An image that another program changes while it is read, or before it is replaced.
@@ -111,7 +190,7 @@ says err 'became shorter while it was read'
 for call in write lstat; do
     prepare
     faulty "$call:1:CUT" try 2 replay night.trace
-    says err 'not replaced, it was changed since it was read'
+    says err 'not written, it was changed since it was read'
     same night.trace cut.trace
     verdict "changed at $call: no temporary file" no_temporary
 done
@@ -120,7 +199,7 @@ unset FAULT_FILE
 # The other commands without memory.
 prepare
 keep night.trace faulty malloc:1:ENOMEM try 2 mend night.trace 0 one-event.patch
-says err 'no memory for the patch'
+says err 'one-event.patch: no memory for its bytes'
 faulty malloc:2:ENOMEM try 2 check night.trace
 says err 'no memory for the table'
 keep night.trace faulty read:1:EIO try 2 mend night.trace 0 one-event.patch

@@ -2,7 +2,8 @@
 
 # each FILE: every command fails on it.
 each() {
-    for each_words in "info $1" "replay $1" "check $1" "show $1 0" "mend $1 0 one-event.patch"; do
+    for each_words in "info $1" "events $1" "show $1 0" "state $1" "check $1" "replay $1" "mend $1 0 one-event.patch" \
+        "encode $1 out.patch" "build $1 1 out.trace"; do
         try 2 $each_words
         says err "hsc: $1: "
         verdict "hsc $each_words: nothing on standard output" [ ! -s out ]
@@ -41,7 +42,7 @@ fi
 mkdir -m 777 open shut
 cp two-events.trace open/reader.trace
 cp two-events.trace open/hidden.trace
-cp two-events.trace shut
+{ head -c 48 two-events.trace; zeros $((3 * 68)); } > shut/two-events.trace
 chmod 444 open/reader.trace
 chmod 000 open/hidden.trace
 chmod 666 shut/two-events.trace

@@ -4,7 +4,7 @@
 cp two-events.trace night.trace
 try 0 mend night.trace 0 one-event.patch
 prints << END
-events 1 from 0 snapshots 2 from 1 stop 3
+1 event from place 0, 2 snapshots from index 1, none agreed; table not checked
 END
 { header 2 1; event 5 0 9; event 9 0 3; snapshot 0 0; snapshot 9 0; snapshot 9 3; } > wanted.trace
 same night.trace wanted.trace
@@ -14,7 +14,7 @@ try 0 check night.trace
 event 5 0 9 77 > stamp.patch
 try 0 mend night.trace 0 stamp.patch
 prints << END
-events 1 from 0 snapshots 0 from 1 stop 1
+1 event from place 0, 0 snapshots from index 1, index 1 agreed; table not checked
 END
 { header 2 1; event 5 0 9 77; event 9 0 3; snapshot 0 0; snapshot 9 0; snapshot 9 3; } > wanted.trace
 same night.trace wanted.trace
@@ -22,11 +22,11 @@ same night.trace wanted.trace
 # No events, in the middle and at the end.
 keep night.trace try 0 mend night.trace 1 empty.patch
 prints << END
-events 0 from 1 snapshots 0 from 2 stop 2
+0 events from place 1, 0 snapshots from index 2, index 2 agreed; table not checked
 END
 keep night.trace try 0 mend night.trace 2 empty.patch
 prints << END
-events 0 from 2 snapshots 0 from 3 stop 3
+0 events from place 2, 0 snapshots from index 3, none agreed; table not checked
 END
 
 # Patches that are refused: not whole events, past the end, a place beyond any image, an illegal event.
@@ -34,10 +34,12 @@ zeros 13 > odd.patch
 { event 5 0 1; event 5 0 2; event 5 0 3; } > long.patch
 { event 5 0 1; event 5 1 2; } > illegal.patch
 keep night.trace refuse 7 0 mend night.trace 0 odd.patch
-says err 'odd.patch: refused'
+says err 'odd.patch: refused 7 at 0: the patch has 13 bytes, which is not a multiple of 12'
 keep night.trace refuse 7 0 mend night.trace 2 one-event.patch
+says err 'one-event.patch: refused 7 at 0: 1 event from place 2 on would go past the end: night.trace has 2 events'
 keep night.trace refuse 7 0 mend night.trace 3 empty.patch
 keep night.trace refuse 7 0 mend night.trace 0 long.patch
+says err 'refused 7 at 0: 3 events from place 0 on would go past the end: night.trace has 2 events'
 keep night.trace refuse 7 0 mend night.trace 18446744073709551615 one-event.patch
 keep night.trace refuse 8 1 mend night.trace 0 illegal.patch
 
@@ -56,3 +58,32 @@ mkfifo pipe.patch
 for patch in missing.patch pipe.patch . /dev/null; do
     keep night.trace try 2 mend night.trace 0 "$patch"
 done
+
+# --check: a table that is true is mended, and that it was looked at is told.
+cp two-events.trace night.trace
+try 0 mend --check night.trace 0 one-event.patch
+prints << END
+1 event from place 0, 2 snapshots from index 1, none agreed; table checked
+END
+{ header 2 1; event 5 0 9; event 9 0 3; snapshot 0 0; snapshot 9 0; snapshot 9 3; } > nine.trace
+same night.trace nine.trace
+
+# A table that is not true: mended as document 01 has it, and the line says that it was not looked at. With --check it
+# is refused, the first snapshot that differs is named, and the file stays.
+{ head -c 48 two-events.trace; snapshot 0 0; snapshot 8 0; snapshot 7 3; } > untrue.trace
+cp untrue.trace night.trace
+keep night.trace try 1 mend night.trace 1 one-event.patch --check
+says err 'night.trace: refused, the table is not true: snapshot 1 differs first, 1 of 3 differ'
+verdict 'a refused mend prints nothing' [ ! -s out ]
+keep night.trace try 1 mend --check --dry-run night.trace 1 one-event.patch
+try 0 mend night.trace 1 one-event.patch
+says out '; table not checked'
+try 3 check night.trace
+
+# --check has replay's refusals first, then the table, then the patch.
+cp untrue.trace damaged.trace
+try 1 mend --check damaged.trace 0 illegal.patch
+says err 'the table is not true'
+over damaged.trace 24 10
+keep damaged.trace refuse 5 0 mend --check damaged.trace 0 illegal.patch
+keep two-events.trace refuse 8 1 mend --check two-events.trace 0 illegal.patch

@@ -1,7 +1,7 @@
 # Standard streams that are full or closed, and disks that are.
 
-for words in --help --version 'info two-events.trace' 'check two-events.trace' 'show two-events.trace 0' \
-    'replay two-events.trace'; do
+for words in --help --version help 'help mend' 'info two-events.trace' 'events two-events.trace' \
+    'show two-events.trace 0' 'state two-events.trace' 'check two-events.trace' 'replay two-events.trace'; do
     status=0
     "$PROGRAM" $words > /dev/full 2> err || status=$?
     verdict "hsc $words > /dev/full: exit status $status" [ "$status" -eq 2 ]
@@ -12,16 +12,11 @@ for words in --help --version 'info two-events.trace' 'check two-events.trace' '
     says err 'standard output: cannot be written: Bad file descriptor'
 done
 
-# More than one buffer of output: 2048 gaps.
-{ event 5 0 1; event 0 0 0; } > many
-for i in 1 2 3 4 5 6 7 8 9 10 11; do
-    cat many many > more && mv more many
-done
-{ header 4096 4096; cat many; zeros $((2 * 68)); } > many.trace
-try 0 info many.trace
-verdict 'every gap is printed' [ "$(grep -c gap out)" -eq 2048 ]
+# More than one buffer of output.
+yes blank | head -n 4096 > many.txt
+try 0 build many.txt 4096 many.trace
 status=0
-"$PROGRAM" info many.trace > /dev/full 2> err || status=$?
+"$PROGRAM" events many.trace > /dev/full 2> err || status=$?
 verdict "a long output to a full disk: exit status $status" [ "$status" -eq 2 ]
 says err 'standard output'
 
@@ -35,6 +30,16 @@ status=0
 "$PROGRAM" mend zero.trace 9 one-event.patch <&- >&- 2>&- || status=$?
 verdict "hsc mend with no streams, refused: exit status $status" [ "$status" -eq 1 ]
 same zero.trace two-events.trace
+
+# A line about a written file that is lost: the file is written, and that is told.
+for words in 'replay zero.trace' 'mend zero.trace 0 one-event.patch' 'replay zero.trace -o other.trace'; do
+    { head -c 48 two-events.trace; zeros $((3 * 68)); } > zero.trace
+    status=0
+    "$PROGRAM" $words > /dev/full 2> err || status=$?
+    verdict "hsc $words > /dev/full: exit status $status" [ "$status" -eq 2 ]
+    says err '.trace: written, but the line about it cannot be printed: No space left on device'
+done
+same other.trace two-events.trace
 
 # The limit on the size of files stands for a full disk: the messages go through a pipe.
 { head -c 48 two-events.trace; zeros $((3 * 68)); } > zero.trace

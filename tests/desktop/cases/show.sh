@@ -13,6 +13,7 @@ UNF      -2147483648           0
 OMB             0000        0000
 HPO             0000        0000
 LPO             0000        0000
+mode     none, nothing is loaded
 ACC      7
 outputs  0000
 ER       0, no error
@@ -61,6 +62,7 @@ UNF               -1          -1
 OMB             000f        000f
 HPO             ffff        ffff
 LPO             0000        0000
+mode     4, up by one input, down by the other
 ACC      2
 outputs  000f
 ER       0, no error
@@ -88,5 +90,5 @@ keep damaged.trace refuse 6 2 show damaged.trace 2
 
 for index in 3 4294967296 18446744073709551615; do
     try 2 show two-events.trace "$index"
-    says err 'no snapshot of this index'
+    says err "two-events.trace: there is no snapshot $index, only snapshots 0 to 2"
 done

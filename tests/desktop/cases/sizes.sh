@@ -4,7 +4,7 @@ largest=$((24 + 12 * 1048576 + 68 * 1048577))
 
 header 1048576 1 > largest.trace
 truncate -s "$largest" largest.trace
-try 1 check largest.trace
+try 3 check largest.trace
 says out 'not true: snapshot 0 differs first, 1048577 of 1048577 differ'
 try 0 replay largest.trace
 says out 'events 1048576 snapshots 1048577 acc 0'
@@ -15,10 +15,10 @@ try 0 show largest.trace 1048576
 truncate -s $((12 * 1048576)) all.patch
 try 0 mend largest.trace 0 all.patch
 prints << END
-events 1048576 from 0 snapshots 1048575 from 1 stop 1048576
+1048576 events from place 0, 1048575 snapshots from index 1, index 1048576 agreed; table not checked
 END
 try 0 mend largest.trace 1048575 one-event.patch
-says out 'snapshots 1 from 1048576 stop 1048577'
+says out '1 snapshot from index 1048576, none agreed'
 try 0 show largest.trace 1048576
 says out 'ACC      9'
 truncate -s $((12 * 1048576 + 12)) over.patch
@@ -42,4 +42,5 @@ verdict 'a huge image keeps its size' [ "$(stat -c %s tail.trace)" -eq 109951162
 
 truncate -s 1T huge.patch
 keep two-events.trace refuse 7 0 mend two-events.trace 0 huge.patch
+says err 'the patch has more than 12582912 bytes, which are the events of the largest image'
 keep two-events.trace refuse 7 0 mend two-events.trace 0 over.patch

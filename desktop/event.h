@@ -1,0 +1,20 @@
+/* The parts of an event in its 12 bytes. */
+#ifndef EVENT_H
+#define EVENT_H
+
+#include "hsc.h"
+
+#include <stdint.h>
+
+uint8_t event_kind(const uint8_t event[HSC_EVENT_SIZE]);
+
+uint8_t event_sub(const uint8_t event[HSC_EVENT_SIZE]);
+
+int32_t event_value(const uint8_t event[HSC_EVENT_SIZE]);
+
+uint32_t event_stamp(const uint8_t event[HSC_EVENT_SIZE]);
+
+/* Writes all 12 bytes. Whether the event is legal is the library's to say. */
+void event_write(uint8_t event[HSC_EVENT_SIZE], uint8_t kind, uint8_t sub, int32_t value, uint32_t stamp);
+
+#endif
