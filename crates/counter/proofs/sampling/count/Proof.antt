@@ -26,7 +26,11 @@ unfolding count
 returns-2 c =
     let counting = c .before .before in
     let reset = counting .before .before in
-    rw (told (reset .before .resets .ensures) (reset .if1 .left), told (counting .before .may-count .ensures) (counting .if2 .taken), ← c .before .mode .ensures)
+    rw (
+      told (reset .before .resets .ensures) (reset .if1 .left),
+      told (counting .before .may-count .ensures) (counting .if2 .taken),
+      ← c .before .mode .ensures,
+    )
     (c .direction .ensures)
 
 returns-3 : tie.Need-returns-3
