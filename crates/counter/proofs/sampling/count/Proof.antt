@@ -1,5 +1,5 @@
 -- `counter::sampling::count` meets its contract: no reset, and the mode's table where the sample may count.
-use Rattle.word.proofs.Branches.{told}
+use Rattle.word.proofs.Branches.{answer-is}
 use Rattle.counter.specs.Sample.{count}
 use borrow.Author.Needs.{needs}
 use Rattle.counter.proofs.sampling.count.Statement.{statement}
@@ -19,7 +19,7 @@ direction-requires c κs = search needs
 
 returns : tie.Need-returns
 unfolding count
-returns c = rw (told (c .before .resets .ensures) (c .if1 .taken))
+returns c = rw (answer-is (c .before .resets .ensures) (c .if1 .taken))
 
 returns-2 : tie.Need-returns-2
 unfolding count
@@ -27,8 +27,8 @@ returns-2 c =
     let counting = c .before .before in
     let reset = counting .before .before in
     rw (
-      told (reset .before .resets .ensures) (reset .if1 .left),
-      told (counting .before .may-count .ensures) (counting .if2 .taken),
+      answer-is (reset .before .resets .ensures) (reset .if1 .left),
+      answer-is (counting .before .may-count .ensures) (counting .if2 .taken),
       ← c .before .mode .ensures,
     )
     (c .direction .ensures)
@@ -37,7 +37,7 @@ returns-3 : tie.Need-returns-3
 unfolding count
 returns-3 c =
     let reset = c .before .before in
-    rw (told (reset .before .resets .ensures) (reset .if1 .left), told (c .before .may-count .ensures) (c .if2 .left))
+    rw (answer-is (reset .before .resets .ensures) (reset .if1 .left), answer-is (c .before .may-count .ensures) (c .if2 .left))
 
 pub count-spec : {M : Type 1} → statement M
 count-spec =
