@@ -7,9 +7,10 @@ use borrow.Author.Tests.{ne-eqb}
 use lib.Dec.{lit<}
 use Rattle.word.specs.Masks.{bit, setBit, clearBit}
 use Rattle.word.proofs.Masks.{bit-setBit, bit-clearBit}
+use Rattle.counter.specs.declared.state.Settings.{Settings}
 use Rattle.counter.specs.declared.state.Counter.{Counter}
-use Rattle.counter.specs.Parts.{flag, ED, LOADED}
-use Rattle.counter.specs.Loading.{firstBroken, rules, presetRules, First, AllPass, Accepted, Rejected, accepted, rejected, load, presetBroken}
+use Rattle.counter.specs.Parts.{flag, ED, LOADED, withActive, withEr, withFlags}
+use Rattle.counter.specs.Loading.{firstBroken, rules, presetRules, First, AllPass, Untouched, Accepted, Rejected, accepted, rejected, load, presetBroken}
 use Rattle.counter.specs.Loading.{withPresets, presetAccepted, presetLoad}
 use Rattle.counter.proofs.Exact.{load-er, load-refused, load-accepted, preset-er, preset-refused, preset-accepted}
 
@@ -20,6 +21,11 @@ set-other w n m h = bit-setBit w n m ∙ ap (λ (b : Bool). cond b true (bit w m
 pub clear-other : (w n m : ℕ) → n < 32 → m < 32 → (m ≡ n → ⊥) → bit (clearBit 32 w n) m ≡ bit w m
 clear-other w n m p q h = bit-clearBit 32 w n m p q ∙ ap (λ (b : Bool). cond b false (bit w m)) (ne-eqb n m (λ e. h (sym e)))
 
+-- other active settings, another ER, and flags that are the same but for ED and LOADED
+untouched : (c : Counter) (a : Settings) (n w : ℕ) → ((m : ℕ) → m < 32 → (m ≡ ED → ⊥) → (m ≡ LOADED → ⊥) → bit w m ≡ flag c m)
+    → Untouched c (withFlags w (withEr n (withActive a c)))
+untouched c a n w h = record { staged = refl; acc = refl; out = refl; levels = refl; desk = refl; flags = h }
+
 pub accepted-leaves : (c : Counter) → Accepted c (c .staged) (accepted c)
 accepted-leaves c =
     let v : ℕ = setBit (c .flags) LOADED in
@@ -28,14 +34,7 @@ accepted-leaves c =
       loaded = bit-clearBit 32 v ED LOADED (lit< tt) (lit< tt) ∙ bit-setBit (c .flags) LOADED LOADED;
       ed = bit-clearBit 32 v ED ED (lit< tt) (lit< tt);
       er = refl;
-      rest = record {
-        staged = refl;
-        acc = refl;
-        out = refl;
-        levels = refl;
-        desk = refl;
-        flags = λ n l e o. clear-other v ED n (lit< tt) l e ∙ set-other (c .flags) LOADED n o;
-      };
+      rest = untouched c (c .staged) 0 (clearBit 32 v ED) (λ n l e o. clear-other v ED n (lit< tt) l e ∙ set-other (c .flags) LOADED n o);
     }
 
 pub rejected-leaves : (c : Counter) (n : ℕ) → Rejected c n (rejected n c)
@@ -45,14 +44,7 @@ rejected-leaves c n =
       loaded = bit-setBit (c .flags) ED LOADED;
       ed = bit-setBit (c .flags) ED ED;
       er = refl;
-      rest = record {
-        staged = refl;
-        acc = refl;
-        out = refl;
-        levels = refl;
-        desk = refl;
-        flags = λ m l e o. set-other (c .flags) ED m e;
-      };
+      rest = untouched c (c .active) n (setBit (c .flags) ED) (λ m l e o. set-other (c .flags) ED m e);
     }
 
 pub presets-leave : (c : Counter) → flag c LOADED ≡ true → Accepted c (withPresets (c .staged) (c .active)) (presetAccepted c)
@@ -62,14 +54,7 @@ presets-leave c l =
       loaded = bit-clearBit 32 (c .flags) ED LOADED (lit< tt) (lit< tt) ∙ l;
       ed = bit-clearBit 32 (c .flags) ED ED (lit< tt) (lit< tt);
       er = refl;
-      rest = record {
-        staged = refl;
-        acc = refl;
-        out = refl;
-        levels = refl;
-        desk = refl;
-        flags = λ n b e o. clear-other (c .flags) ED n (lit< tt) b e;
-      };
+      rest = untouched c (withPresets (c .staged) (c .active)) 0 (clearBit 32 (c .flags) ED) (λ n b e o. clear-other (c .flags) ED n (lit< tt) b e);
     }
 
 -- ---- by the rules

@@ -1,5 +1,5 @@
--- Document 01, "One input sample", last paragraph, and the routine's end: the running cause and the waiting ones. A cause is a number,
--- 0 for none.
+-- Document 01, "One input sample", last paragraph, and event kind 7: the running cause and the waiting ones. A cause is any number but 0,
+-- which stands for none.
 use mathlib.Core.Bool.{cond}
 use mathlib.Core.List.{List, [], _∷_}
 use Prim.Native.Nat.{ℕ, _+_, _-_}

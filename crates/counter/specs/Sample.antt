@@ -106,13 +106,13 @@ countedBy Down c = countedDown c
 unfoldable pub resets : ℕ → Counter → Bool
 resets new c = flag c LOADED && hasReset (mode c) && rises (c .levels) new 2
 
--- settings are loaded, no reset, CE is 1, and no hold (input 3) is on
+-- settings are loaded, CE is 1, and no hold (input 3) is on
 unfoldable pub mayCount : ℕ → Counter → Bool
-mayCount new c = flag c LOADED && not (resets new c) && flag c CE && not (hasReset (mode c) && bit new 3)
+mayCount new c = flag c LOADED && flag c CE && not (hasReset (mode c) && bit new 3)
 
--- the count that a sample makes
+-- the count that a sample makes; a reset makes none
 unfoldable pub count : ℕ → Counter → Count
-count new c = cond (mayCount new c) (direction (mode c) (c .levels) new) None
+count new c = cond (resets new c) None (cond (mayCount new c) (direction (mode c) (c .levels) new) None)
 
 -- A reset: ACC 0, no count, nothing raised, whatever CE and hold are. Else the count, if there is one.
 unfoldable pub sampled : ℕ → Counter → Sampled

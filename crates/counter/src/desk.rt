@@ -1,4 +1,4 @@
-// The desk: the running cause and the waiting ones. A cause is a number, 0 for none; which number is whose is not the desk's affair.
+// The desk: the running cause and the waiting ones. A cause is any number but 0, which stands for none.
 ghost use mathlib.Core.Path.{_≡_};
 ghost use Prim.Native.Nat.{_<_};
 ghost use Rattle.counter.specs.Desk.{queuedOf, empty, starting, waiting, resting, advancing, post, finish};

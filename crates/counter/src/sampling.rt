@@ -66,12 +66,11 @@ fn resets(c: Counter, new: u8) -> bool
         & inputs::rises(c.levels, new, 2)
 }
 
-// Whether the sample may count: settings are loaded, no reset, CE is 1, and no hold is on.
+// Whether the sample may count: settings are loaded, CE is 1, and no hold is on.
 pub fn may_count(c: Counter, new: u8) -> bool
     ensures { λ r. ⌜ r ≡ mayCount new c ⌝ }
 {
     bits::has(c.flags, flag::LOADED)
-        & !resets(c, new)
         & bits::has(c.flags, flag::CE)
         & !(inputs::has_reset(rules::mode(c)) & inputs::is_on(new, 3))
 }
@@ -80,10 +79,14 @@ pub fn may_count(c: Counter, new: u8) -> bool
 pub fn count(c: Counter, new: u8) -> Count
     ensures { λ r. ⌜ r ≡ count new c ⌝ }
 {
-    if may_count(c, new) {
-        inputs::direction(rules::mode(c), c.levels, new)
-    } else {
+    if resets(c, new) {
         Count::None
+    } else {
+        if may_count(c, new) {
+            inputs::direction(rules::mode(c), c.levels, new)
+        } else {
+            Count::None
+        }
     }
 }
 

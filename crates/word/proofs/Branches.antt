@@ -25,8 +25,8 @@ cond-cases P true x y p q = p refl
 cond-cases P false x y p q = q refl
 
 -- what a call's answer is, and what a test of that answer said
-pub told : {A : Type 0} {r b v : A} → r ≡ b → r ≡ v → b ≡ v
-told e t = sym e ∙ t
+pub answer-is : {A : Type 0} {r b v : A} → r ≡ b → r ≡ v → b ≡ v
+answer-is e t = sym e ∙ t
 
 -- ---- equality of signed numbers
 
@@ -76,4 +76,4 @@ module _ {w : Width} {x y : ℤ} (f : SFits w x) (g : SFits w y) where
 pub ruleset branches = (yes-branch, no-branch, lt-ltb, le-ltb, le-leb, lt-leb, eq-eqb, ne-eqb, lt-signed, le-signed, eq-signed, ne-signed)
 
 -- the same where the tests are of what calls answered
-pub ruleset calls = (told, branches)
+pub ruleset calls = (answer-is, branches)

@@ -1,7 +1,7 @@
 -- `counter::causes::raise` meets its contract: outputs first, then an interrupt if the cause is enabled.
 use borrow.Author.Needs.{needs}
 use Rattle.counter.specs.Interrupts.{interrupt, raise}
-use Rattle.word.proofs.Branches.{told}
+use Rattle.word.proofs.Branches.{answer-is}
 use Rattle.counter.proofs.causes.raise.Statement.{statement}
 use Rattle.counter.proofs.causes.raise.Tie as tie
 
@@ -18,11 +18,11 @@ returns : tie.Need-returns
 unfolding raise
 returns c =
     let tested = c .before .before in
-    rw (told (tested .enabled .ensures) (c .before .if1 .taken), ← tested .before .with-outputs .ensures) (c .interrupt .ensures)
+    rw (answer-is (tested .enabled .ensures) (c .before .if1 .taken), ← tested .before .with-outputs .ensures) (c .interrupt .ensures)
 
 returns-2 : tie.Need-returns-2
 unfolding raise
-returns-2 c = rw (told (c .before .enabled .ensures) (c .if1 .left)) (c .before .before .with-outputs .ensures)
+returns-2 c = rw (answer-is (c .before .enabled .ensures) (c .if1 .left)) (c .before .before .with-outputs .ensures)
 
 pub raise-spec : {M : Type 1} → statement M
 raise-spec =

@@ -1,6 +1,6 @@
 -- `counter::loading::preset_load` meets its contract: each test is the definition's, in its order.
 use borrow.Author.Tests.{eq-eqb, ne-eqb}
-use Rattle.word.proofs.Branches.{told}
+use Rattle.word.proofs.Branches.{answer-is}
 use Rattle.counter.specs.Loading.{presetLoad}
 use borrow.Author.Needs.{needs}
 use Rattle.counter.proofs.loading.preset_load.Statement.{statement}
@@ -23,7 +23,7 @@ unfolding presetLoad
 returns c =
     let tested = c .before .before in
     let loaded = tested .before in
-    rw (told (loaded .before .has .ensures) (loaded .if1 .taken), ← tested .preset-broken .ensures, eq-eqb _ _ (c .before .if2 .taken))
+    rw (answer-is (loaded .before .has .ensures) (loaded .if1 .taken), ← tested .preset-broken .ensures, eq-eqb _ _ (c .before .if2 .taken))
     (c .accept-presets .ensures)
 
 returns-2 : tie.Need-returns-2
@@ -31,11 +31,11 @@ unfolding presetLoad
 returns-2 c =
     let tested = c .before .before in
     let loaded = tested .before in
-    rw (told (loaded .before .has .ensures) (loaded .if1 .taken), ← tested .preset-broken .ensures, ne-eqb _ _ (c .before .if2 .left)) (c .reject .ensures)
+    rw (answer-is (loaded .before .has .ensures) (loaded .if1 .taken), ← tested .preset-broken .ensures, ne-eqb _ _ (c .before .if2 .left)) (c .reject .ensures)
 
 returns-3 : tie.Need-returns-3
 unfolding presetLoad
-returns-3 c = rw (told (c .before .has .ensures) (c .if1 .left))
+returns-3 c = rw (answer-is (c .before .has .ensures) (c .if1 .left))
 
 pub preset-load-spec : {M : Type 1} → statement M
 preset-load-spec =

@@ -7,9 +7,6 @@ use Rattle.counter.proofs.sampling.may_count.Tie as tie
 has-requires : tie.Need-has-requires
 has-requires c κs = search needs
 
-resets-requires : tie.Need-resets-requires
-resets-requires c κs = search needs
-
 has-requires-2 : tie.Need-has-requires-2
 has-requires-2 c κs = search needs
 
@@ -26,16 +23,13 @@ returns : tie.Need-returns
 unfolding mayCount
 returns c =
     let held = c .before .before in
-    let enabled = held .before in
-    let reset = enabled .before in
-    simp (reset .before .has .ensures, reset .resets .ensures, enabled .has2 .ensures, held .mode .ensures, c .before .has-reset .ensures, c .is-on .ensures)
+    simp (held .before .before .has .ensures, held .before .has2 .ensures, held .mode .ensures, c .before .has-reset .ensures, c .is-on .ensures)
 
 pub may-count-spec : {M : Type 1} → statement M
 may-count-spec =
     tie.close
     (tie.spec
     has-requires
-    resets-requires
     has-requires-2
     mode-requires
     has-reset-requires

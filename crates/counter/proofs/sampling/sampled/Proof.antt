@@ -1,5 +1,5 @@
 -- `counter::sampling::sampled` meets its contract: a reset, or the count that the sample makes.
-use Rattle.word.proofs.Branches.{told}
+use Rattle.word.proofs.Branches.{answer-is}
 use Rattle.counter.specs.Sample.{sampled}
 use borrow.Author.Needs.{needs}
 use Rattle.counter.proofs.sampling.sampled.Statement.{statement}
@@ -19,13 +19,13 @@ counted-by-requires c κs = search needs
 
 returns : tie.Need-returns
 unfolding sampled
-returns c = rw (told (c .before .before .resets .ensures) (c .before .if1 .taken)) (c .reset .ensures)
+returns c = rw (answer-is (c .before .before .resets .ensures) (c .before .if1 .taken)) (c .reset .ensures)
 
 returns-2 : tie.Need-returns-2
 unfolding sampled
 returns-2 c =
     let tested = c .before .before in
-    rw (told (tested .before .resets .ensures) (tested .if1 .left), ← c .before .count .ensures) (c .counted-by .ensures)
+    rw (answer-is (tested .before .resets .ensures) (tested .if1 .left), ← c .before .count .ensures) (c .counted-by .ensures)
 
 pub sampled-spec : {M : Type 1} → statement M
 sampled-spec =

@@ -3,13 +3,13 @@ use borrow.Author.Needs.{needs}
 use mathlib.Core.Path.{_≡_, ap, _∙_}
 use mathlib.Core.Bool.{Bool}
 use Rattle.word.proofs.TwosComplement.{signed-unsigned}
-use Rattle.word.proofs.Branches.{told}
+use Rattle.word.proofs.Branches.{answer-is}
 use Rattle.counter.specs.Events.{spRises, flagWrite}
 use Rattle.counter.proofs.stepping.flag_write.Statement.{statement}
 use Rattle.counter.proofs.stepping.flag_write.Tie as tie
 
 rising : (c : tie.After-sp-rises) (b : Bool) → c .sp-rises .result ≡ b → spRises (c .before .args .sub) (c .before .args .v) (c .before .args .c) ≡ b
-rising c b e = told (c .sp-rises .ensures ∙ ap (λ v. spRises (c .before .args .sub) v (c .before .args .c)) (signed-unsigned (c .before .fits .v))) e
+rising c b e = answer-is (c .sp-rises .ensures ∙ ap (λ v. spRises (c .before .args .sub) v (c .before .args .c)) (signed-unsigned (c .before .fits .v))) e
 
 sp-rises-requires : tie.Need-sp-rises-requires
 sp-rises-requires c κs = search needs

@@ -3,13 +3,13 @@ use borrow.Author.Needs.{needs}
 use mathlib.Core.Path.{_≡_}
 use mathlib.Core.Bool.{Bool}
 use Rattle.word.proofs.TwosComplement.{signed-unsigned}
-use Rattle.word.proofs.Branches.{told}
+use Rattle.word.proofs.Branches.{answer-is}
 use Rattle.counter.specs.Events.{isZero}
 use Rattle.counter.proofs.stepping.set_to.Statement.{statement}
 use Rattle.counter.proofs.stepping.set_to.Tie as tie
 
 zero : (c : tie.After-is-zero) (v : Bool) → c .is-zero .result ≡ v → isZero (c .before .args .v) ≡ v
-zero c v e = rw (signed-unsigned (c .before .fits .v)) at (told (c .is-zero .ensures) e)
+zero c v e = rw (signed-unsigned (c .before .fits .v)) at (answer-is (c .is-zero .ensures) e)
 
 is-zero-requires : tie.Need-is-zero-requires
 is-zero-requires c κs = search needs

@@ -2,7 +2,7 @@
 use mathlib.Core.Path.{_≡_}
 use mathlib.Core.Bool.{Bool}
 use Rattle.word.proofs.TwosComplement.{signed-unsigned}
-use Rattle.word.proofs.Branches.{told}
+use Rattle.word.proofs.Branches.{answer-is}
 use Rattle.counter.specs.Events.{isSample}
 use Rattle.counter.proofs.ByKind.{step-sample, step-other}
 use borrow.Author.Needs.{needs}
@@ -10,7 +10,7 @@ use Rattle.counter.proofs.stepping.step.Statement.{statement}
 use Rattle.counter.proofs.stepping.step.Tie as tie
 
 sampled : (c : tie.After-is-sample) (b : Bool) → c .is-sample .result ≡ b → isSample (c .before .args .kind) (c .before .args .sub) (c .before .args .v) ≡ b
-sampled c b e = rw (signed-unsigned (c .before .fits .v)) at (told (c .is-sample .ensures) e)
+sampled c b e = rw (signed-unsigned (c .before .fits .v)) at (answer-is (c .is-sample .ensures) e)
 
 is-sample-requires : tie.Need-is-sample-requires
 is-sample-requires c κs = search needs

@@ -3,13 +3,13 @@ use borrow.Author.Needs.{needs}
 use mathlib.Core.Path.{_≡_}
 use mathlib.Core.Bool.{Bool}
 use Rattle.word.proofs.TwosComplement.{signed-unsigned}
-use Rattle.word.proofs.Branches.{told}
+use Rattle.word.proofs.Branches.{answer-is}
 use Rattle.counter.specs.Events.{legal, control, stepControl}
 use Rattle.counter.proofs.stepping.step_control.Statement.{statement}
 use Rattle.counter.proofs.stepping.step_control.Tie as tie
 
 allowed : (c : tie.After-legal) (b : Bool) → c .legal .result ≡ b → legal (c .before .args .kind) (c .before .args .sub) (c .before .args .v) ≡ b
-allowed c b e = rw (signed-unsigned (c .before .fits .v)) at (told (c .legal .ensures) e)
+allowed c b e = rw (signed-unsigned (c .before .fits .v)) at (answer-is (c .legal .ensures) e)
 
 legal-requires : tie.Need-legal-requires
 legal-requires c κs = search needs
