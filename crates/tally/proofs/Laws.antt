@@ -1,59 +1,58 @@
--- The tally keeps the laws of a machine and its codec: a remainder by 10 is a digit, and one byte is read as it was written. One event
--- more is one digit added, a snapshot is one byte, and writing one is a store.
-use mathlib.Core.Path.{_≡_, refl, ap, _∙_}
-use mathlib.Core.Bool.{Bool, true, false, _&&_}
+-- The tally keeps the laws of a system: a remainder by 10 is a digit, one byte is read as it was written, and 0 is a digit. Its events
+-- and snapshots are single bytes, so that reading, storing and comparing a byte is what the theory says of parts.
+use mathlib.Core.Path.{_≡_, refl, sym, ap, _∙_}
+use mathlib.Core.Bool.{Bool, _&&_, and-true}
 use mathlib.Core.List.{List, [], _∷_}
-use Prim.Native.Nat.{ℕ, _+_, _*_, _<_}
+use Prim.Native.Nat.{ℕ, zero, suc, _+_, _<_}
 use native.Mathlib.Omega.{arith}
-use lib.Dec.{leb, eqb}
+use borrow.Author.Tests.{ltb-true, lt-ltb}
+use lib.Dec.{eqb, lit<}
 use lib.ListN.{length, getD, set}
+use Rattle.word.specs.Part.{Bytes, part, put}
+use Rattle.word.specs.Same.{sameBytes}
 use Rattle.word.proofs.Part.{getD-part, part-one}
 use Rattle.word.proofs.Put.{set-put}
-use Rattle.replay.specs.Machine.{Laws}
-use Rattle.replay.specs.Image.{Shape, event, snapshot, withSnapshot}
-use Rattle.replay.specs.Replay.{run}
-use Rattle.word.specs.Same.{sameBytes}
-use Rattle.replay.specs.Mend.{settled}
-use Rattle.replay.proofs.Run.{run-suc}
-use Rattle.tally.specs.Tally.{added, tally, digit, stretch}
+use Rattle.replay.specs.System.{Laws}
+use Rattle.replay.specs.Image.{Shape, eventPlace, snapshotPlace}
+use Rattle.tally.specs.Tally.{digitIn, tally}
 
-pub laws : Laws tally digit
+bytes-one : (s : ℕ) → s < 10 → Bytes (s ∷ [])
+bytes-one s h zero = omega arith
+bytes-one s h (suc i) = lit< tt
+
+pub laws : Laws tally
 laws =
     record {
+      some = lit< tt;
       step-good = λ s e good legal. omega arith;
-      length-encode = λ s good. refl;
+      sized-encode = λ s good. record { whole = refl; bytes = bytes-one s good };
+      formed-encode = λ s good. lt-ltb s 10 good;
       decode-encode = λ s good. refl;
+      decode-good = λ b sized formed. ltb-true (digitIn b) 10 formed;
+      start-good = λ b sized starts. lit< tt;
+      start-again = λ b sized starts. refl;
+      starts-again = λ b sized starts. refl;
     }
 
--- ---- events
+-- ---- places that code has found
 
-pub run-next : (s : ℕ) (image : List ℕ) (at count n : ℕ)
-    → run tally (stretch at count) s image 0 (n + 1) ≡ added (run tally (stretch at count) s image 0 n) (getD image (at + n) 0)
-unfolding event
-run-next s image at count n =
-    let place : at + (0 + n) * 1 + 0 ≡ at + n = omega arith in
-    run-suc tally (stretch at count) s image 0 n
-    ∙ ap (added (run tally (stretch at count) s image 0 n))
-    (getD-part image (at + (0 + n) * 1) 1 0 0 (omega arith) ∙ ap (λ (p : ℕ). getD image p 0) place)
+module _ (g : Shape) where
+  pub event-at : (i : ℕ) → g .header + i ≡ eventPlace tally g i
+  event-at i = omega arith
 
--- ---- snapshots
+  pub snapshot-at : (j : ℕ) → g .header + g .count + j ≡ snapshotPlace tally g j
+  snapshot-at j = omega arith
 
-and-true : (t : Bool) → t && true ≡ t
-and-true true = refl
-and-true false = refl
+-- ---- a byte that code reads, stores or compares
 
-module _ (g : Shape) (image : List ℕ) (j at : ℕ) (e : at ≡ g .header + g .count + j) (h : at < length image) where
-  place : g .header + g .count * 1 + j * 1 ≡ at
-  place = omega arith
+pub byte-read : (image : List ℕ) (at place : ℕ) → at ≡ place → getD image at 0 ≡ digitIn (part image place 1)
+byte-read image at place e = ap (λ (p : ℕ). getD image p 0) (omega arith) ∙ sym (getD-part image place 1 0 0 (lit< tt))
 
-  pub snapshot-byte : snapshot tally digit g image j ≡ getD image at 0 ∷ []
-  unfolding snapshot
-  snapshot-byte = rw place (part-one image at 0 h)
+module _ (image : List ℕ) (at s : ℕ) (inside : at < length image) where
+  pub byte-stored : set image at s ≡ put image at (tally .encode s)
+  byte-stored = set-put image at s inside
 
-  pub set-withSnapshot : (s : ℕ) → set image at s ≡ withSnapshot tally digit g image j (s ∷ [])
-  unfolding withSnapshot
-  set-withSnapshot s = rw place (set-put image at s h)
-
-  pub settled-byte : (end s : ℕ) → settled tally digit g end image j s ≡ (leb end (j * g .spacing) && eqb (getD image at 0) s)
-  unfolding settled sameBytes
-  settled-byte end s = rw (snapshot-byte, and-true (eqb (getD image at 0) s))
+  pub byte-compared : (allowed : Bool) {t : Bool} → t ≡ (allowed && eqb (getD image at 0) s)
+      → t ≡ (allowed && sameBytes (part image at 1) (tally .encode s))
+  unfolding sameBytes
+  byte-compared allowed e = rw (part-one image at 0 inside, and-true (eqb (getD image at 0) s)) e

@@ -1,3 +1,2 @@
 -- The laws of the tally.
 pub mod Laws
-pub mod Turns

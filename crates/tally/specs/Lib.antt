@@ -1,2 +1,2 @@
--- The tally: a machine of one digit.
+-- The tally: a system of one digit.
 pub mod Tally

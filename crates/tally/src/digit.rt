@@ -1,11 +1,11 @@
-// One digit: a step, a stretch of steps, and the test that ends a mending.
+// One digit: a step, a row of steps, and the test that ends a mending.
 ghost use mathlib.Core.Path.{_≡_};
 ghost use mathlib.Core.Bool.{_&&_};
 ghost use Prim.Native.Nat.{_+_, _≤_};
 ghost use lib.ListN.{length};
 ghost use lib.Dec.{leb, eqb};
-ghost use Rattle.replay.specs.Replay.{run};
-ghost use Rattle.tally.specs.Tally.{added, tally, stretch};
+ghost use Rattle.replay.specs.Events.{run};
+ghost use Rattle.tally.specs.Tally.{added, tally};
 
 // The digit after b is added.
 pub fn step(state: u8, b: u8) -> u8
@@ -14,10 +14,10 @@ pub fn step(state: u8, b: u8) -> u8
     ((state as u16 + b as u16) % 10) as u8
 }
 
-// The digit after the events in count bytes from place at.
+// The digit after the count events from byte at on.
 pub fn advance(image: &[u8], state: u8, at: usize, count: usize) -> u8
     requires { ⌜ at + count ≤ length (now image) ⌝ }
-    ensures { λ r. ⌜ r ≡ run tally (stretch at count) state (now (image .entry)) 0 count ⌝ }
+    ensures { λ r. ⌜ r ≡ run tally state (now (image .entry)) at count ⌝ }
 {
     let mut digit = state;
     let mut i = 0;

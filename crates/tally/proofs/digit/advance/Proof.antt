@@ -1,25 +1,24 @@
 -- `tally::digit::advance` meets its contract. The invariant: `digit` is the state after the first i events; a turn is one event more.
 -- The measure is what is left of the events.
 use mathlib.Core.Path.{_≡_, sym, ap, _∙_}
-use Prim.Native.Nat.{ℕ, _+_, _-_, _≤_}
+use Prim.Native.Nat.{_+_, _-_, _*_, _≤_}
 use borrow.Author.Needs.{needs}
 use native.Mathlib.Omega.{arith}
-use lib.ListN.{getD}
-use Rattle.replay.specs.Replay.{run}
-use Rattle.replay.proofs.Run.{run-zero}
-use Rattle.tally.specs.Tally.{added, tally, stretch}
-use Rattle.tally.proofs.Laws.{run-next}
+use Rattle.replay.specs.Events.{run}
+use Rattle.replay.proofs.Run.{run-zero, run-more}
+use Rattle.tally.specs.Tally.{added, tally}
+use Rattle.tally.proofs.Laws.{byte-read}
 use Rattle.tally.proofs.digit.advance.Statement.{statement}
 use Rattle.tally.proofs.digit.advance.Tie as tie
 
 abbrev Inv-loop : tie.InvT-loop
-Inv-loop image state at count digit₀ i₀ digit i = (i ≤ count) × (digit ≡ run tally (stretch at count) state image 0 i)
+Inv-loop image state at count digit₀ i₀ digit i = (i ≤ count) × (digit ≡ run tally state image at i)
 
 abbrev μ-loop : tie.MeasureT-loop
 μ-loop image state at count digit₀ i₀ digit i = count - i
 
 loop-holds : tie.Need-loop-holds Inv-loop μ-loop
-loop-holds c = (search needs, sym (run-zero tally (stretch _ _) _ _ 0))
+loop-holds c = (search needs, sym (run-zero tally _ _ _))
 
 add-step : tie.Need-add-step Inv-loop μ-loop
 add-step c = omega arith
@@ -39,20 +38,18 @@ loop-less c = omega arith
 loop-again : tie.Need-loop-again Inv-loop μ-loop
 loop-again c =
     let at-loop = c .before .before .before in
-    let args = at-loop .before .before .args in
-    let image = args .image .now in
+    let a = at-loop .before .before .args in
     let i = at-loop .loop .i in (
       omega arith,
-      c .step .ensures
-          ∙ ap (λ (s : ℕ). added s (getD image (args .at + i) 0)) (at-loop .loop .inv .1)
-          ∙ sym (run-next (args .state) image (args .at) (args .count) i),
+      run-more tally (a .state) (a .image .now) (a .at) i (at-loop .loop .inv .1)
+          (c .step .ensures ∙ ap (added (at-loop .loop .digit)) (byte-read (a .image .now) (a .at + i) (a .at + i * 1) (omega arith))),
     )
 
 returns : tie.Need-returns Inv-loop μ-loop
 returns c =
-    let args = c .before .before .before .args in
-    let all : c .before .loop .i ≡ args .count = omega arith in
-    c .before .loop .inv .1 ∙ ap (run tally (stretch (args .at) (args .count)) (args .state) (args .image .now) 0) all
+    let a = c .before .before .before .args in
+    let all : c .before .loop .i ≡ a .count = omega arith in
+    c .before .loop .inv .1 ∙ ap (run tally (a .state) (a .image .now) (a .at)) all
 
 pub advance-spec : {M : Type 1} → statement M
 advance-spec =

@@ -1,24 +1,25 @@
 -- `tally::trace::replay` meets its contract. The invariant: replaying on from here gives what replaying from the loop's start gives, and
 -- the image is as long as it was. The measure is what is left of the snapshots.
-use mathlib.Core.Path.{_≡_, refl, sym, _∙_}
+use mathlib.Core.Path.{_≡_, refl, sym, ap, _∙_}
 use Prim.Native.Nat.{_+_, _-_, _*_, _≤_}
 use borrow.Author.Needs.{needs}
 use native.Mathlib.Omega.{arith}
 use lib.ListN.{length, length-set}
-use Rattle.replay.specs.Image.{Shape}
+use Rattle.replay.specs.Image.{Shape, snapshotPlace}
 use Rattle.replay.specs.Replay.{replayOn}
 use Rattle.replay.proofs.Image.{spacing-within}
 use Rattle.replay.proofs.Loops.{replayOn-end}
-use Rattle.tally.specs.Tally.{tally, digit, shape}
-use Rattle.tally.proofs.Turns.{replay-turn, replay-answers}
+use Rattle.replay.proofs.Turns.{begun-first, replay-turn, replay-whole}
+use Rattle.tally.specs.Tally.{digitIn, tally, shape}
+use Rattle.tally.proofs.Laws.{laws, event-at, snapshot-at, byte-stored}
 use Rattle.tally.proofs.trace.replay.Statement.{statement}
 use Rattle.tally.proofs.trace.replay.Tie as tie
 
 abbrev Inv-loop : tie.InvT-loop
 Inv-loop image₀ header count spacing table last state₀ j₀ image state j =
     (j ≤ last)
-    × (replayOn tally digit (shape header count spacing) (last - j) j state image
-    ≡ replayOn tally digit (shape header count spacing) (last - 0) 0 0 image₀)
+    × (replayOn tally (shape header count spacing) (last - j) j state image
+    ≡ replayOn tally (shape header count spacing) (last - 0) 0 0 image₀)
     × (length image ≡ header + count + last + 1)
 
 abbrev μ-loop : tie.MeasureT-loop
@@ -70,8 +71,9 @@ loop-again c =
     let in-loop = c .before .before in
     let at-loop = in-loop .before in
     let turn =
-    replay-turn (shape-at at-loop) _ _ _ _ _ (in-loop .loop-test .taken) refl (slice-write-image-2 c) (c .advance .ensures) in
-    (omega arith, sym turn ∙ at-loop .loop .inv .1, simp length-set (at-loop .loop .inv .2))
+    replay-turn tally (shape-at at-loop) _ _ _ _ (in-loop .loop-test .taken) _ (event-at (shape-at at-loop) _) (c .advance .ensures) _
+    (snapshot-at (shape-at at-loop) _) _ (byte-stored _ _ _ (slice-write-image-2 c)) in
+    (omega arith, turn ∙ at-loop .loop .inv .1, simp length-set (at-loop .loop .inv .2))
 
 same-length : tie.Need-same-length Inv-loop μ-loop
 same-length c = omega arith
@@ -80,9 +82,14 @@ returns : tie.Need-returns Inv-loop μ-loop
 returns c =
     let at-loop = c .before in
     let entry = at-loop .before .before in
-    sym (replayOn-end tally digit (shape-at at-loop) _ _ _ (c .loop-test .left))
+    let g = shape-at at-loop in
+    let image = entry .args .image .now in
+    let table : g .header + g .count ≡ snapshotPlace tally g 0 = omega arith in
+    let begun = byte-stored image (g .header + g .count) 0 (slice-write-image (at-loop .before)) in
+    let first = begun-first tally laws g image (entry .pre) _ _ table begun in
+    sym (replayOn-end tally g _ _ _ (c .loop-test .left))
     ∙ at-loop .loop .inv .1
-    ∙ replay-answers (shape-at at-loop) (entry .args .image .now) (entry .pre)
+    ∙ replay-whole tally laws g image (entry .pre) _ _ table begun 0 (sym (ap digitIn first))
 
 pub replay-spec : {M : Type 1} → statement M
 replay-spec =
