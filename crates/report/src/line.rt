@@ -7,9 +7,8 @@ ghost use Rattle.report.specs.Appended.{Appended};
 ghost use Rattle.report.specs.Line.{countsText, stateText, errorText, replayLine, refusalLine};
 
 fn append_counts(s: &mut [u8], at: usize, events: u64, snapshots: u64) -> usize
-    requires { ⌜ at + 58 ≤ length (now s) ⌝ }
+    requires { ⌜ at + length (countsText events snapshots) ≤ length (now s) ⌝ }
     ensures { λ r. ⌜ Appended (now (s .entry)) at (countsText events snapshots) (now (s .exit)) r ⌝ }
-    ensures { λ r. ⌜ r ≤ at + 58 ⌝ }
 {
     let a = text::append(s, at, b"events ");
     let b = text::append_decimal(s, a, events);
@@ -18,9 +17,8 @@ fn append_counts(s: &mut [u8], at: usize, events: u64, snapshots: u64) -> usize
 }
 
 fn append_state(s: &mut [u8], at: usize, acc: i32, out: u16) -> usize
-    requires { ⌜ at + 35 ≤ length (now s) ⌝ }
+    requires { ⌜ at + length (stateText acc out) ≤ length (now s) ⌝ }
     ensures { λ r. ⌜ Appended (now (s .entry)) at (stateText acc out) (now (s .exit)) r ⌝ }
-    ensures { λ r. ⌜ r ≤ at + 35 ⌝ }
 {
     let a = text::append(s, at, b" acc ");
     let b = text::append_signed(s, a, acc);
@@ -29,9 +27,8 @@ fn append_state(s: &mut [u8], at: usize, acc: i32, out: u16) -> usize
 }
 
 fn append_error(s: &mut [u8], at: usize, er: u16, flags: u32) -> usize
-    requires { ⌜ at + 40 ≤ length (now s) ⌝ }
+    requires { ⌜ at + length (errorText er flags) ≤ length (now s) ⌝ }
     ensures { λ r. ⌜ Appended (now (s .entry)) at (errorText er flags) (now (s .exit)) r ⌝ }
-    ensures { λ r. ⌜ r ≤ at + 40 ⌝ }
 {
     let a = text::append(s, at, b" er ");
     let b = text::append_decimal(s, a, er as u64);

@@ -17,7 +17,7 @@ pub fn append(s: &mut [u8], at: usize, piece: &[u8]) -> usize
 
 // Appends a number in decimal.
 pub fn append_decimal(s: &mut [u8], at: usize, n: u64) -> usize
-    requires { ⌜ at + 20 ≤ length (now s) ⌝ }
+    requires { ⌜ at + length (decimal n) ≤ length (now s) ⌝ }
     ensures { λ r. ⌜ Appended (now (s .entry)) at (decimal n) (now (s .exit)) r ⌝ }
 {
     let mut digits = [0u8; 20];
@@ -27,7 +27,7 @@ pub fn append_decimal(s: &mut [u8], at: usize, n: u64) -> usize
 
 // Appends a signed number in decimal.
 pub fn append_signed(s: &mut [u8], at: usize, v: i32) -> usize
-    requires { ⌜ at + 21 ≤ length (now s) ⌝ }
+    requires { ⌜ at + length (signedDecimal v) ≤ length (now s) ⌝ }
     ensures { λ r. ⌜ Appended (now (s .entry)) at (signedDecimal v) (now (s .exit)) r ⌝ }
 {
     if v < 0 {
@@ -40,9 +40,8 @@ pub fn append_signed(s: &mut [u8], at: usize, v: i32) -> usize
 
 // Appends a number in hex, in `width` digits that hold it.
 pub fn append_hex(s: &mut [u8], at: usize, width: usize, n: u64) -> usize
-    requires { ⌜ (1 ≤ width) × (width ≤ 16) ⌝ }
-    requires { ⌜ n < 16 ^ width ⌝ }
-    requires { ⌜ at + width ≤ length (now s) ⌝ }
+    requires { ⌜ (1 ≤ width) × (width ≤ 16) × (n < 16 ^ width) ⌝ }
+    requires { ⌜ at + length (hexadecimal width n) ≤ length (now s) ⌝ }
     ensures { λ r. ⌜ Appended (now (s .entry)) at (hexadecimal width n) (now (s .exit)) r ⌝ }
 {
     let mut digits = [0u8; 16];
