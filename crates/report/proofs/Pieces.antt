@@ -12,16 +12,17 @@ use Rattle.report.specs.Appended.{Appended}
 pub put-appended : (s : List ℕ) (at : ℕ) (piece : List ℕ) → at + length piece ≤ length s → Appended s at piece (put s at piece) (at + length piece)
 put-appended s at piece h = record { text = take-put-end s at piece (omega arith); place = refl; same = length-put s at piece h }
 
--- the same piece under another name
-pub appended-as : {s t p q : List ℕ} {at n : ℕ} → p ≡ q → Appended s at p t n → Appended s at q t n
-appended-as {s} {t} {p} {q} {at} {n} e a = subst (λ (l : List ℕ). Appended s at l t n) e a
+-- a word, and a text that is equal to the one that was appended
+pub text-as : (word : List ℕ) {s t p q : List ℕ} {at n : ℕ} → p ≡ q → Appended s at (word ++ p) t n → Appended s at (word ++ q) t n
+text-as word {s} {t} {p} {q} {at} {n} e a = subst (λ (l : List ℕ). Appended s at (word ++ l) t n) e a
 
--- pieces of a text that are still to be appended, in a buffer t with text up to m: with them after it, the text from `at` on in s is whole
+-- A text that goes into the buffer s from `at` on, and the pieces of it that are left to append: t is the buffer that holds the others, up
+-- to m. There is room for all of it.
 pub record Left (s : List ℕ) (at : ℕ) (text : List ℕ) (pieces : List (List ℕ)) (t : List ℕ) (m : ℕ) : Type 0 where
   rest : take m t ++ flatten pieces ≡ take at s ++ text
   place : m + length (flatten pieces) ≡ at + length text
   room : at + length text ≤ length s
-  same : length t ≡ length s
+  pub same : length t ≡ length s
 
 -- a text that begins with l, and goes on with the pieces
 unfoldable pub joined : List ℕ → List (List ℕ) → List ℕ

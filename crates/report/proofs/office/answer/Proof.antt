@@ -84,6 +84,8 @@ module _ (c : tie.After-enum-told) where
       let state = ap (λ (l : List ℕ). decode (part l 0 snapshotSize)) (replayed .replay .ensures .1 .1) ∙ final-decoded (image replayed) bytes valid _ in
       accepted-then (replayed .replay .result) (replayVerdict (image replayed)) (replayed .replay .ensures .0) (c .enum-told .given .1) (ap given state)
 
+-- ---- the needs
+
 replay-requires : tie.Need-replay-requires
 replay-requires c κs = search needs
 

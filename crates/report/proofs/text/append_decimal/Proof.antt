@@ -1,15 +1,16 @@
 -- `report::text::append_decimal` meets its contract: the fewest digits are the definition's text.
 use mathlib.Core.Path.{_≡_, _∙_}
+use denote.Ref.{now}
 use lib.ListN.{take}
 use borrow.Author.Needs.{needs}
 use Rattle.report.specs.Line.{decimal}
 use Rattle.report.proofs.Digits.{decimal-fewest}
-use Rattle.report.proofs.Pieces.{appended-as}
+use Rattle.report.proofs.Pieces.{text-as}
 use Rattle.report.proofs.text.append_decimal.Statement.{statement}
 use Rattle.report.proofs.text.append_decimal.Tie as tie
 
 abbrev start : tie.After-decimal → tie.Start
-start c = c .before .before .before
+start c = c .before .before .before .before
 
 written : (c : tie.After-decimal) → take (c .decimal .result) (c .decimal .last .1 .0) ≡ decimal (start c .args .n)
 written c =
@@ -21,11 +22,11 @@ decimal-requires c κs = search needs
 array-share-prefix-digits : tie.Need-array-share-prefix-digits
 array-share-prefix-digits c = search needs
 
-slice-aggregate-append : tie.Need-slice-aggregate-append
-slice-aggregate-append c = search needs
+slice-aggregate-append-both : tie.Need-slice-aggregate-append-both
+slice-aggregate-append-both c = search needs
 
-append-requires : tie.Need-append-requires
-append-requires c κs = rw (written (c .before .before)) (start (c .before .before) .pre)
+append-both-requires : tie.Need-append-both-requires
+append-both-requires c κs = rw (written (c .before .before)) (start (c .before .before) .pre)
 
 same-length : tie.Need-same-length
 same-length c = search needs
@@ -33,7 +34,8 @@ same-length c = search needs
 returns : tie.Need-returns
 returns c =
     let called = c .before .before in
-    appended-as (written (called .before .before .before)) (called .append .ensures)
+    let told = called .before .before .before in
+    text-as (now (start told .args .word)) (written told) (called .append-both .ensures)
 
 pub append-decimal-spec : {M : Type 1} → statement M
 append-decimal-spec =
@@ -41,7 +43,7 @@ append-decimal-spec =
     (tie.spec
     decimal-requires
     array-share-prefix-digits
-    slice-aggregate-append
-    append-requires
+    slice-aggregate-append-both
+    append-both-requires
     same-length
     returns)

@@ -2,17 +2,18 @@
 use mathlib.Core.Path.{_≡_, ap, _∙_}
 use Prim.Native.Nat.{ℕ, min, max}
 use native.Mathlib.Omega.{arith}
+use denote.Ref.{now}
 use lib.ListN.{take}
 use borrow.Author.Needs.{needs}
 use Rattle.io.specs.Digits.{digits}
 use Rattle.report.specs.Line.{hexadecimal}
 use Rattle.report.proofs.Digits.{hex-fewest}
-use Rattle.report.proofs.Pieces.{appended-as}
+use Rattle.report.proofs.Pieces.{text-as}
 use Rattle.report.proofs.text.append_hex.Statement.{statement}
 use Rattle.report.proofs.text.append_hex.Tie as tie
 
 abbrev start : tie.After-hex → tie.Start
-start c = c .before .before .before
+start c = c .before .before .before .before
 
 written : (c : tie.After-hex) → take (c .hex .result) (c .hex .last .1 .1 .0) ≡ hexadecimal (start c .args .width) (start c .args .n)
 written c =
@@ -27,11 +28,11 @@ hex-requires c κs = search needs
 array-share-prefix-digits : tie.Need-array-share-prefix-digits
 array-share-prefix-digits c = search needs
 
-slice-aggregate-append : tie.Need-slice-aggregate-append
-slice-aggregate-append c = search needs
+slice-aggregate-append-both : tie.Need-slice-aggregate-append-both
+slice-aggregate-append-both c = search needs
 
-append-requires : tie.Need-append-requires
-append-requires c κs = rw (written (c .before .before)) (start (c .before .before) .pre .1)
+append-both-requires : tie.Need-append-both-requires
+append-both-requires c κs = rw (written (c .before .before)) (start (c .before .before) .pre .1)
 
 same-length : tie.Need-same-length
 same-length c = search needs
@@ -39,7 +40,8 @@ same-length c = search needs
 returns : tie.Need-returns
 returns c =
     let called = c .before .before in
-    appended-as (written (called .before .before .before)) (called .append .ensures)
+    let told = called .before .before .before in
+    text-as (now (start told .args .word)) (written told) (called .append-both .ensures)
 
 pub append-hex-spec : {M : Type 1} → statement M
 append-hex-spec =
@@ -47,7 +49,7 @@ append-hex-spec =
     (tie.spec
     hex-requires
     array-share-prefix-digits
-    slice-aggregate-append
-    append-requires
+    slice-aggregate-append-both
+    append-both-requires
     same-length
     returns)
