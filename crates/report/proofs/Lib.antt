@@ -1,4 +1,5 @@
 -- Laws of the text.
 pub mod Digits
+pub mod Lengths
 pub mod Pieces
 pub mod Signs

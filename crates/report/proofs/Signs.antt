@@ -15,7 +15,8 @@ use mir.Facts.{toZ-ofZ, toZ-pos}
 use Rattle.report.specs.Line.{decimal, signedDecimal}
 use Rattle.report.proofs.Digits.{length-decimal}
 
-pub negative-text : (v : ℤ) → SFits w32 v → ltZ (toZ w32 (ofZ w32 v)) (pos 0) ≡ true → signedDecimal v ≡ 45 ∷ decimal (ofZ w32 (toZ w32 (4294967295 - ofZ w32 v)) + 1)
+pub negative-text : (v : ℤ) → SFits w32 v → ltZ (toZ w32 (ofZ w32 v)) (pos 0) ≡ true
+    → signedDecimal v ≡ 45 ∷ decimal (ofZ w32 (toZ w32 (4294967295 - ofZ w32 v)) + 1)
 unfolding signedDecimal
 negative-text (pos n) h t = absurd (false≢true (sym (leb·suc-zero n) ∙ ap (λ (x : ℤ). ltZ x (pos 0)) (sym (toZ-ofZ h)) ∙ t))
 negative-text (negsuc k) h t =

@@ -52,22 +52,17 @@ atWord = 32 ∷ 97 ∷ 116 ∷ 32 ∷ []
 abbrev pub lineEnd : List ℕ
 lineEnd = 10 ∷ []
 
--- `events 2 snapshots 3`
-unfoldable pub countsText : ℕ → ℕ → List ℕ
-countsText events snapshots = eventsWord ++ decimal events ++ snapshotsWord ++ decimal snapshots
-
--- ` acc 7 out 0003`
-unfoldable pub stateText : ℤ → ℕ → List ℕ
-stateText acc out = accWord ++ signedDecimal acc ++ outWord ++ hexadecimal 4 out
-
--- ` er 0 flags 00000780`, and the line's end
-unfoldable pub errorText : ℕ → ℕ → List ℕ
-errorText er flags = erWord ++ decimal er ++ flagsWord ++ hexadecimal 8 flags ++ lineEnd
-
 -- `events 2 snapshots 3 acc 7 out 0003 er 0 flags 00000780`
 unfoldable pub replayLine : ℕ → ℕ → ℤ → ℕ → ℕ → ℕ → List ℕ
-replayLine events snapshots acc out er flags = countsText events snapshots ++ stateText acc out ++ errorText er flags
+replayLine events snapshots acc out er flags =
+    (eventsWord ++ decimal events)
+    ++ (snapshotsWord ++ decimal snapshots)
+    ++ (accWord ++ signedDecimal acc)
+    ++ (outWord ++ hexadecimal 4 out)
+    ++ (erWord ++ decimal er)
+    ++ (flagsWord ++ hexadecimal 8 flags)
+    ++ lineEnd
 
 -- `refused 4 at 0`
 unfoldable pub refusalLine : ℕ → ℕ → List ℕ
-refusalLine number place = refusedWord ++ decimal number ++ atWord ++ decimal place ++ lineEnd
+refusalLine number place = (refusedWord ++ decimal number) ++ (atWord ++ decimal place) ++ lineEnd

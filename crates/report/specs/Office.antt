@@ -2,9 +2,10 @@
 use mathlib.Core.List.{List}
 use Prim.Native.Nat.{ℕ}
 use Rattle.counter.specs.declared.state.Counter.{Counter}
-use Rattle.trace.specs.Refusals.{Answer, refused, given}
-use Rattle.trace.specs.Verdicts.{eventCount, snapshotCount}
-use Rattle.trace.specs.Replays.{replayAnswer}
+use Rattle.trace.specs.Refusals.{Answer, refused, given, _andThen_}
+use Rattle.trace.specs.Header.{eventCount, snapshotCount}
+use Rattle.trace.specs.Verdicts.{replayVerdict}
+use Rattle.trace.specs.Replays.{finalState}
 use Rattle.report.specs.Line.{replayLine, refusalLine}
 
 -- a refusal's line, or that of the counts and the final state
@@ -13,4 +14,4 @@ lineOf events snapshots (refused number place) = refusalLine number place
 lineOf events snapshots (given c) = replayLine events snapshots (c .acc) (c .out) (c .er) (c .flags)
 
 abbrev pub officeLine : List ℕ → List ℕ
-officeLine image = lineOf (eventCount image) (snapshotCount image) (replayAnswer image)
+officeLine image = lineOf (eventCount image) (snapshotCount image) (replayVerdict image andThen given (finalState image))

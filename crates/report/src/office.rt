@@ -3,6 +3,8 @@ use super::line::refusal_line;
 use super::line::replay_line;
 use libc::STDIN_FILENO;
 use libc::STDOUT_FILENO;
+use snapshot::codec::decode;
+use trace::edition::MAX_SIZE;
 use trace::header;
 use trace::refusal::Verdict;
 use trace::refusal::number_of;
@@ -11,7 +13,33 @@ use trace::replaying::replay;
 ghost use mathlib.Core.Path.{_≡_};
 ghost use Prim.Native.Nat.{_≤_};
 ghost use lib.ListN.{length, take};
-ghost use Rattle.report.specs.Office.{officeLine};
+ghost use Rattle.word.specs.Part.{part};
+ghost use Rattle.snapshot.specs.Widths.{snapshotSize};
+ghost use Rattle.snapshot.specs.Snapshots.{decode};
+ghost use Rattle.trace.specs.Refusals.{given};
+ghost use Rattle.trace.specs.Header.{headerSize, eventCount, snapshotCount};
+ghost use Rattle.report.specs.Office.{lineOf, officeLine};
+
+// The line of an image that was replayed, by its header and the final state's snapshot; answers the line's length.
+fn accepted_line(image: &[u8], last: &[u8], line: &mut [u8]) -> usize
+    requires { ⌜ (headerSize ≤ length (now image)) × (snapshotSize ≤ length (now last)) × (160 ≤ length (now line)) ⌝ }
+    ensures { λ r. ⌜ take r (now (line .exit)) ≡ lineOf (eventCount (now (image .entry))) (snapshotCount (now (image .entry)))
+        (given (decode (part (now (last .entry)) 0 snapshotSize))) ⌝ }
+    ensures { λ r. ⌜ r ≤ length (now (line .exit)) ⌝ }
+{
+    let events = header::number(image, header::EVENT_COUNT) as u64;
+    let snapshots = header::number(image, header::SNAPSHOT_COUNT) as u64;
+    let state = decode(last, 0);
+    replay_line(
+        line,
+        events,
+        snapshots,
+        state.acc,
+        state.out,
+        state.er,
+        state.flags,
+    )
+}
 
 // Replays the image and puts its line at the front of a buffer; answers the line's length.
 pub fn answer(image: &mut [u8], line: &mut [u8]) -> usize
@@ -19,24 +47,10 @@ pub fn answer(image: &mut [u8], line: &mut [u8]) -> usize
     ensures { λ r. ⌜ take r (now (line .exit)) ≡ officeLine (now (image .entry)) ⌝ }
     ensures { λ r. ⌜ r ≤ length (now (line .exit)) ⌝ }
 {
-    let replayed = replay(image);
-    let verdict = replayed.verdict;
-    match verdict {
+    let mut last = [0u8; MAX_SIZE];
+    match replay(image, &mut last) {
         Verdict::Refused(r) => refusal_line(line, number_of(r), place_of(r)),
-        Verdict::Accepted => {
-            let events = header::number(image, header::EVENT_COUNT) as u64;
-            let snapshots = header::number(image, header::SNAPSHOT_COUNT) as u64;
-            let last = replayed.last;
-            replay_line(
-                line,
-                events,
-                snapshots,
-                last.acc,
-                last.out,
-                last.er,
-                last.flags,
-            )
-        }
+        Verdict::Accepted => accepted_line(image, &last, line),
     }
 }
 
