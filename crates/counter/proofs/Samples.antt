@@ -1,6 +1,6 @@
 -- Outputs, a raised cause and an input sample keep a state well formed.
-use mathlib.Core.Path.{_≡_, refl}
-use mathlib.Core.Bool.{Bool, true, false, _&&_, and-eq-true-iff, false≢true}
+use mathlib.Core.Path.{_≡_, refl, ap}
+use mathlib.Core.Bool.{Bool, true, false, cond, _&&_, and-eq-true-iff, false≢true}
 use Prim.Native.Nat.{ℕ, _<_, _≤_, _%_, _^_}
 use native.Mathlib.Nat.{mod-lt, lt-of-le-of-lt}
 use borrow.Author.Tests.{eqb-true}
@@ -14,14 +14,15 @@ use Rattle.word.specs.Masks.{bit, merge}
 use Rattle.word.specs.TwosComplement.{eqZ}
 use Rattle.word.proofs.Masks.{merge-lt}
 use Rattle.word.proofs.Branches.{cond-cases}
+use Rattle.counter.specs.declared.desk.Desk.{Desk}
 use Rattle.counter.specs.declared.state.Counter.{Counter}
 use Rattle.counter.specs.declared.state.Counted.{Counted}
 use Rattle.counter.specs.declared.state.Sampled.{Sampled}
 use Rattle.counter.specs.declared.state.Count.{Count}
 use Rattle.counter.specs.declared.state.Count.the-variants.{None, Up, Down}
-use Rattle.counter.specs.Parts.{FE, UIE, lowPreset, highPreset, overflow, causeCount, withAcc, withFlags, withLevels, upOnly, mode}
+use Rattle.counter.specs.Parts.{FE, UIE, lowPreset, highPreset, overflow, causeCount, withAcc, withFlags, withLevels, withDesk, upOnly, mode}
 use Rattle.counter.specs.Interrupts.{outputMask, presetWord, causeWord, unmasked, enabled, withOutputs, raise}
-use Rattle.counter.specs.Sample.{counted, up, down, upOf, downOf, sampledAs, unmoved, countedBy, resets, count, sampled, sample}
+use Rattle.counter.specs.Sample.{counted, up, down, upOf, downOf, sampledAs, unmoved, countedBy, resets, mayCount, count, sampled, sample}
 use Rattle.counter.specs.Events.{programWord}
 use Rattle.counter.proofs.Limits.{up-fits, down-fits}
 use Rattle.counter.proofs.Flags.{Kept, kept-refl, kept-upFlags, kept-downFlags}
@@ -142,3 +143,15 @@ module _ (c : Counter) (w : Well c) where
       let d : Counter = withAcc (r .acc) (withLevels new c) in
       let counted : Well d = well-acc (withLevels new c) stored (r .acc) (m .acc) in
       well-raise (withFlags (r .flags) d) (r .cause) (well-flags d counted (r .flags) (m .flags))
+
+-- ---- what a sample does not look at
+
+counted-desk : (way : Count) (d : Desk) (c : Counter) → countedBy way (withDesk d c) ≡ countedBy way c
+unfolding countedBy
+counted-desk None d c = refl
+counted-desk Up d c = refl
+counted-desk Down d c = refl
+
+pub sampled-desk : (new : ℕ) (d : Desk) (c : Counter) → sampled new (withDesk d c) ≡ sampled new c
+unfolding sampled resets count mayCount
+sampled-desk new d c = ap (cond (resets new c) (sampledAs (pos 0) (c .flags) 0)) (counted-desk (count new c) d c)

@@ -4,6 +4,7 @@ use crate::codec;
 use crate::event::read_event;
 use crate::places;
 use counter::causes;
+use counter::desk;
 use counter::legality;
 use counter::sampling;
 use counter::state;
@@ -19,7 +20,8 @@ ghost use mir.Syntax.{w32};
 ghost use Rattle.word.specs.Part.{part, put};
 ghost use Rattle.word.specs.TwosComplement.{unsigned};
 ghost use Rattle.word.specs.Layouts.{pack};
-ghost use Rattle.counter.specs.Parts.{withAcc, withFlags, withLevels, fresh};
+ghost use Rattle.counter.specs.Desk.{empty};
+ghost use Rattle.counter.specs.Parts.{withAcc, withFlags, withLevels, withDesk, fresh};
 ghost use Rattle.counter.specs.Interrupts.{raise};
 ghost use Rattle.counter.specs.Sample.{sample};
 ghost use Rattle.counter.specs.Events.{stepControl};
@@ -134,12 +136,23 @@ fn raise_over(s: &mut [u8], moving: &mut [u8], acc: i32, flags: u32, levels: u8,
     write_state(causes::raise(c, cause), s, moving);
 }
 
+// The state without its desk, which a sample does not look at and which then need not be loaded.
+fn read_without_desk(s: &[u8], moving: &[u8]) -> Counter
+    requires { ⌜ (length (now s) ≡ snapshotSize) × (length (now moving) ≡ movingSize) ⌝ }
+    ensures { λ r. ⌜ r ≡ withDesk empty (splitState (now (s .entry)) (now (moving .entry))) ⌝ }
+{
+    let none = desk::empty();
+    let mut c = read_state(s, moving);
+    c.desk = none;
+    c
+}
+
 // A sample; where it raises no cause, the snapshot's bytes are not touched.
 fn sample_over(s: &mut [u8], moving: &mut [u8], new: u8)
     requires { ⌜ (length (now s) ≡ snapshotSize) × (length (now moving) ≡ movingSize) ⌝ }
     ensures { λ _. ⌜ HoldsIfGood (sample new (splitState (now (s .entry)) (now (moving .entry)))) (now (s .exit)) (now (moving .exit)) ⌝ }
 {
-    let r = sampling::sampled(read_state(s, moving), new);
+    let r = sampling::sampled(read_without_desk(s, moving), new);
     if r.cause == 0 {
         write_moving(moving, r.acc, r.flags, new);
     } else {

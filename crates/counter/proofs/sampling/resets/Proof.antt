@@ -1,14 +1,7 @@
--- `counter::sampling::resets` meets its contract: the tests are the definition's.
-use Rattle.counter.specs.Sample.{resets}
+-- `counter::sampling::resets` meets its contract: the tests are the contract's.
 use borrow.Author.Needs.{needs}
 use Rattle.counter.proofs.sampling.resets.Statement.{statement}
 use Rattle.counter.proofs.sampling.resets.Tie as tie
-
-has-requires : tie.Need-has-requires
-has-requires c κs = search needs
-
-mode-requires : tie.Need-mode-requires
-mode-requires c κs = search needs
 
 has-reset-requires : tie.Need-has-reset-requires
 has-reset-requires c κs = search needs
@@ -17,9 +10,7 @@ rises-requires : tie.Need-rises-requires
 rises-requires c κs = search needs
 
 returns : tie.Need-returns
-unfolding resets
-returns c = simp (c .before .before .before .has .ensures, c .before .has-reset .ensures, c .before .before .mode .ensures, c .rises .ensures)
+returns c = simp (c .before .has-reset .ensures, c .rises .ensures)
 
 pub resets-spec : {M : Type 1} → statement M
-resets-spec =
-    tie.close (tie.spec has-requires mode-requires has-reset-requires rises-requires returns)
+resets-spec = tie.close (tie.spec has-reset-requires rises-requires returns)

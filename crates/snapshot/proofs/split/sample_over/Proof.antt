@@ -10,8 +10,10 @@ use Rattle.word.specs.Layouts.{pack}
 use Rattle.word.proofs.TwosComplement.{signed-unsigned}
 use Rattle.counter.specs.declared.state.Counter.{Counter}
 use Rattle.counter.specs.Parts.{withAcc, withFlags, withLevels}
+use Rattle.counter.specs.Desk.{empty}
 use Rattle.counter.specs.Interrupts.{raise}
 use Rattle.counter.specs.Sample.{sampled}
+use Rattle.counter.proofs.Samples.{sampled-desk}
 use Rattle.counter.proofs.Told.{sampled-told}
 use Rattle.snapshot.specs.Widths.{movingLayout}
 use Rattle.snapshot.specs.Snapshots.{decode}
@@ -29,10 +31,11 @@ held c = splitState (now (entry c .args .s)) (now (entry c .args .moving))
 
 -- what was made of the state
 made-of : (c : tie.After-sampled) → c .sampled .result ≡ sampled (entry c .args .new) (held c)
-made-of c = c .sampled .ensures ∙ ap (sampled (entry c .args .new)) (c .before .read-state .ensures)
+made-of c =
+    c .sampled .ensures ∙ ap (sampled (entry c .args .new)) (c .before .read-without-desk .ensures) ∙ sampled-desk (entry c .args .new) empty (held c)
 
-read-state-requires : tie.Need-read-state-requires
-read-state-requires c κs = search needs
+read-without-desk-requires : tie.Need-read-without-desk-requires
+read-without-desk-requires c κs = search needs
 
 sampled-requires : tie.Need-sampled-requires
 sampled-requires c κs = search needs
@@ -89,7 +92,7 @@ pub sample-over-spec : {M : Type 1} → statement M
 sample-over-spec =
     tie.close
     (tie.spec
-    read-state-requires
+    read-without-desk-requires
     sampled-requires
     write-moving-requires
     raise-over-requires
