@@ -6,3 +6,4 @@ pub mod header;
 pub mod mending;
 pub mod refusal;
 pub mod replaying;
+mod table;

@@ -80,7 +80,8 @@ returns-3 c =
     let last = c .before .before in
     let tested = last .before .before in
     let first = tested .before in
-    rw (loaded (first .before) _ (first .if1 .taken), resetting tested _ (last .before .if2 .left), counting last _ (c .before .if3 .left)) (c .unmoved .ensures)
+    rw (loaded (first .before) _ (first .if1 .taken), resetting tested _ (last .before .if2 .left), counting last _ (c .before .if3 .left))
+    (c .unmoved .ensures)
 
 returns-4 : tie.Need-returns-4
 unfolding sampled resets count mayCount countedBy

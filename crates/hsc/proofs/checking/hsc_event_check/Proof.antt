@@ -20,14 +20,16 @@ unfolding checkAnswer
 returns-2 c =
     let asked = c .before in
     let sized = asked .before in
-    rw (eq-eqb _ _ (sized .if1 .left), told-whole legalEvent (now (sized .before .before .args .event)) (sized .if1 .left) (asked .legal-event .ensures) (c .if2 .taken))
+    let event = now (sized .before .before .args .event) in
+    rw (eq-eqb _ _ (sized .if1 .left), told-whole legalEvent event (sized .if1 .left) (asked .legal-event .ensures) (c .if2 .taken))
 
 returns-3 : tie.Need-returns-3
 unfolding checkAnswer
 returns-3 c =
     let asked = c .before in
     let sized = asked .before in
-    rw (eq-eqb _ _ (sized .if1 .left), told-whole legalEvent (now (sized .before .before .args .event)) (sized .if1 .left) (asked .legal-event .ensures) (c .if2 .left))
+    let event = now (sized .before .before .args .event) in
+    rw (eq-eqb _ _ (sized .if1 .left), told-whole legalEvent event (sized .if1 .left) (asked .legal-event .ensures) (c .if2 .left))
 
 pub hsc-event-check-spec : {M : Type 1} → statement M
 hsc-event-check-spec = tie.close (tie.spec returns legal-event-requires returns-2 returns-3)

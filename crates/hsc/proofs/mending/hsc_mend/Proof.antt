@@ -75,4 +75,16 @@ returns-2 c =
 
 pub hsc-mend-spec : {M : Type 1} → statement M
 hsc-mend-spec =
-    tie.close (tie.spec mend-requires enum-known-r status-of-requires enum-known-s cast-write-span cast-write-span-2 write-span-requires same-length returns same-length-2 returns-2)
+    tie.close
+    (tie.spec
+    mend-requires
+    enum-known-r
+    status-of-requires
+    enum-known-s
+    cast-write-span
+    cast-write-span-2
+    write-span-requires
+    same-length
+    returns
+    same-length-2
+    returns-2)

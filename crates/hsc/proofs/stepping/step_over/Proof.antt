@@ -78,4 +78,13 @@ returns c =
 
 pub step-over-spec : {M : Type 1} → statement M
 step-over-spec =
-    tie.close (tie.spec slice-aggregate-load-moving load-moving-requires slice-aggregate-advance advance-requires slice-aggregate-write-over write-over-requires same-length returns)
+    tie.close
+    (tie.spec
+    slice-aggregate-load-moving
+    load-moving-requires
+    slice-aggregate-advance
+    advance-requires
+    slice-aggregate-write-over
+    write-over-requires
+    same-length
+    returns)

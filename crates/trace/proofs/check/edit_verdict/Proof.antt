@@ -25,7 +25,8 @@ patch-answer : (c : tie.After-patch-verdict) → let args = c .before .before .b
 patch-answer c =
     let args = c .before .before .before .before .before .args in
     c .patch-verdict .ensures
-    ∙ ap₂ (λ (ed : Edition) (e : ℕ). patchVerdict (system ed) e (args .first) (args .patch .now)) (c .before .before .edition .ensures) (c .before .number .ensures)
+    ∙ ap₂ (λ (ed : Edition) (e : ℕ). patchVerdict (system ed) e (args .first) (args .patch .now)) (c .before .before .edition .ensures)
+    (c .before .number .ensures)
 
 edition-requires : tie.Need-edition-requires
 edition-requires c κs = passes c .header .long

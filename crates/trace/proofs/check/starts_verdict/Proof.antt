@@ -21,7 +21,8 @@ inside : (c : tie.After-size) → let read = c .before .before in let args = rea
 inside c =
     let read = c .before .before in
     let start = read .before .before in
-    snapshot-inside (start .args .image .now) (passes (read .before)) 0 (omega arith) _ (read .edition .ensures) _ _ (c .size .ensures .0) (c .before .number .ensures)
+    snapshot-inside (start .args .image .now) (passes (read .before)) 0 (omega arith) _ (read .edition .ensures) _ _ (c .size .ensures .0)
+    (c .before .number .ensures)
 
 edition-requires : tie.Need-edition-requires
 edition-requires c κs = passes c .header .long

@@ -6,7 +6,8 @@ use mathlib.Core.List.{List}
 use Prim.Native.Nat.{ℕ}
 use denote.Ref.{now}
 use lib.ListN.{length}
-use Rattle.trace.specs.Header.{headerSize, eventCount, spacingOf, sixth, eventOffset, snapshotCount, snapshotOffset, limitsBroken, offsetsBroken, headerVerdict}
+use Rattle.trace.specs.Header.{headerSize, eventCount, spacingOf, sixth, eventOffset, snapshotCount, snapshotOffset}
+use Rattle.trace.specs.Header.{limitsBroken, offsetsBroken, headerVerdict}
 use Rattle.trace.proofs.Headers.{limits-kept}
 use Rattle.trace.proofs.header.verdict.Statement.{statement}
 use Rattle.trace.proofs.header.verdict.Tie as tie
@@ -74,7 +75,8 @@ offsets-broken-requires c κs =
     let third = at .before .before in
     let second = third .before in
     let kept =
-    limits-kept (second .before .number .result) (second .number2 .result) (third .number3 .result) (sym (at .before .limits-broken .ensures) ∙ at .if2 .left) in
+    limits-kept (second .before .number .result) (second .number2 .result) (third .number3 .result)
+    (sym (at .before .limits-broken .ensures) ∙ at .if2 .left) in
     (kept .spaced, kept .few)
 
 returns-3 : tie.Need-returns-3

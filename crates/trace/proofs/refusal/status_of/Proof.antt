@@ -37,7 +37,8 @@ enum-told c = search needs
 returns : tie.Need-returns
 returns c =
     let told = c .before .before in
-    (λ i. c .before .number-of .ensures i + c .place-of .ensures i * 2 ^ 32) ∙ sym (ap (λ (v : Verdict). statusOf (verdictOf v)) (told .before .verdict .given .1))
+    (λ i. c .before .number-of .ensures i + c .place-of .ensures i * 2 ^ 32)
+    ∙ sym (ap (λ (v : Verdict). statusOf (verdictOf v)) (told .before .verdict .given .1))
 
 returns-2 : tie.Need-returns-2
 returns-2 c = search needs
