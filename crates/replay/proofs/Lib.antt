@@ -1,4 +1,4 @@
--- The laws of replay and mending, for any machine. `Theorem` states what a user of them asks for.
+-- The laws of replay and mending, for any system. `Theorem` states what a user of them asks for.
 pub mod Image
 pub mod Changed
 pub mod Start

@@ -1,1 +1,1 @@
-// No code: the theory of a table of snapshots over a row of events, for any machine.
+// No code: the theory of a table of snapshots over a row of events, for any system.

@@ -7,7 +7,6 @@ use counter::causes;
 use counter::desk;
 use counter::legality;
 use counter::sampling;
-use counter::state;
 use counter::state::Counter;
 use counter::stepping;
 use word::bytes;
@@ -21,7 +20,7 @@ ghost use Rattle.word.specs.Part.{part, put};
 ghost use Rattle.word.specs.TwosComplement.{unsigned};
 ghost use Rattle.word.specs.Layouts.{pack};
 ghost use Rattle.counter.specs.Desk.{empty};
-ghost use Rattle.counter.specs.Parts.{withAcc, withFlags, withLevels, withDesk, fresh};
+ghost use Rattle.counter.specs.Parts.{withAcc, withFlags, withLevels, withDesk};
 ghost use Rattle.counter.specs.Interrupts.{raise};
 ghost use Rattle.counter.specs.Sample.{sample};
 ghost use Rattle.counter.specs.Events.{stepControl};
@@ -58,14 +57,6 @@ pub fn write_state(c: Counter, s: &mut [u8], moving: &mut [u8])
 {
     codec::encode(c, s, 0);
     write_moving(moving, c.acc, c.flags, c.levels);
-}
-
-// A fresh state over both.
-pub fn begin_state(s: &mut [u8], moving: &mut [u8])
-    requires { ⌜ (length (now s) ≡ snapshotSize) × (length (now moving) ≡ movingSize) ⌝ }
-    ensures { λ _. ⌜ splitState (now (s .exit)) (now (moving .exit)) ≡ fresh ⌝ }
-{
-    write_state(state::fresh(), s, moving);
 }
 
 // Puts the moving numbers of a snapshot beside it.

@@ -28,7 +28,8 @@ returns : tie.Need-returns
 returns c =
     let moved = c .before .before .before .before in
     let placed = moved .before .before .before in
-    (run-at (system (placed .before .before .before .before .args .ed)) _ _ _ (placed .event-place .ensures) (moved .advance .ensures .0), moved .advance .ensures .1)
+    let a = placed .before .before .before .before .args in
+    (run-at (system (a .ed)) _ _ _ (placed .event-place .ensures) (moved .advance .ensures .0), moved .advance .ensures .1)
 
 pub follow-spec : {M : Type 1} → statement M
 follow-spec =
