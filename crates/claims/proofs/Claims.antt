@@ -23,10 +23,11 @@ use Rattle.counter.specs.Interrupts.{presetWord, causeWord}
 use Rattle.counter.specs.Sample.{up, down, upFlags, downFlags, sample}
 use Rattle.counter.specs.Events.{programWord, outputWrite, step}
 use Rattle.counter.specs.Bench.{bench}
-use Rattle.snapshot.specs.Widths.{snapshotSize}
+use Rattle.snapshot.specs.Widths.{eventSize, snapshotSize, movingSize}
 use Rattle.snapshot.specs.Snapshots.{encode, decode}
 use Rattle.snapshot.specs.FormedBytes.{formed}
 use Rattle.snapshot.specs.EventBytes.{legalEvent, stepEvent}
+use Rattle.snapshot.specs.Split.{splitState, HoldsIfGood}
 use Rattle.replay.specs.System.{System, Laws}
 use Rattle.replay.specs.Image.{Shape, snapshots, snapshotPlace, firstSnapshot, eventPlace, changed, Fitting}
 use Rattle.replay.specs.Events.{firstIllegal}
@@ -143,7 +144,7 @@ status-place = hsc.Halves.status-place
 pub status-done : (v : Verdict) → statusOf (verdictOf v) ≡ 0 → verdictOf v ≡ given tt
 status-done = trace.Answers.status-done
 
--- with any other status a lent buffer is as it was
+-- with any other status a lent buffer, which a verdict changes by `changedIf`, is as it was
 pub status-kept : {A : Type 0} (a : Answer Unit) (old new : List A) → (statusOf a ≡ 0 → ⊥) → old ≡ changedIf a old new
 status-kept = trace.Answers.status-kept
 
@@ -275,6 +276,17 @@ legal-stamp = snapshot.Stamp.legal-stamp
 
 pub step-stamp : (d e : List ℕ) (c : Counter) → take 8 d ≡ take 8 e → stepEvent d c ≡ stepEvent e c
 step-stamp = snapshot.Stamp.step-stamp
+
+-- an event taken over a state in its bytes, and the moving ones beside them, is the step of that state, where that is well formed
+pub step-over-met : {M : Type 1} → snapshot.split.step_over.Statement.statement M
+step-over-met = snapshot.split.step_over.Met.met
+
+pub step-over : (κs : _) (s s′ moving moving′ events events′ : RefT (List ℕ)) (at at′ : ℕ)
+    → (snapshot.split.step_over.Reads.Asked κs (s, (moving, (events, (at, tt))))
+    ≡ ((length (now s) ≡ snapshotSize) × (length (now moving) ≡ movingSize) × (at + eventSize ≤ length (now events))))
+    × (snapshot.split.step_over.Reads.Learnt κs (s, (moving, (events, (at, tt)))) tt (s′, (moving′, (events′, (at′, tt))))
+    ≡ HoldsIfGood (stepEvent (part (now events) at eventSize) (splitState (now s) (now moving))) (now s′) (now moving′))
+step-over κs s s′ moving moving′ events events′ at at′ = (refl, refl)
 
 -- ---- Demand 3: a mended night is the replayed night
 
