@@ -44,10 +44,6 @@ pub both-passed : {A : Type 0} {x : A} (a : Answer Unit) (b : Answer A) → (a a
 both-passed (refused n p) b e = absurd (refused-given e)
 both-passed (given tt) b e = (refl, e)
 
-pub then-assoc : {A : Type 0} (a b : Answer Unit) (x : Answer A) → ((a andThen b) andThen x) ≡ (a andThen b andThen x)
-then-assoc (refused n p) b x = refl
-then-assoc (given tt) b x = refl
-
 -- ---- a verdict that the code gave
 
 module _ (v : Verdict) (a : Answer Unit) (answered : verdictOf v ≡ a) where

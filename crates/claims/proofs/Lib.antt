@@ -1,0 +1,2 @@
+-- The claims of `docs/CLAIMS.md`, in the order of its three demands.
+pub mod Claims

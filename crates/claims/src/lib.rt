@@ -1,0 +1,1 @@
+// No code: what the other crates prove, stated again for a reader.
