@@ -18,5 +18,5 @@ pub mod Raising
 pub mod Ranges
 pub mod Samples
 pub mod Steps
-pub mod Told
+pub mod Typing
 pub mod Words

@@ -11,5 +11,5 @@ pub of-whole : {A : Type 0} (f : List ℕ → A) (l : List ℕ) (n : ℕ) → le
 of-whole f l n e = ap f (part-whole l n e)
 
 -- and so is what a call answered of the part
-pub told-whole : (f : List ℕ → Bool) (l : List ℕ) {n : ℕ} {r b : Bool} → length l ≡ n → r ≡ f (part l 0 n) → r ≡ b → f l ≡ b
-told-whole f l {n} e told test = sym (of-whole f l n e) ∙ sym told ∙ test
+pub whole-answer : (f : List ℕ → Bool) (l : List ℕ) {n : ℕ} {r b : Bool} → length l ≡ n → r ≡ f (part l 0 n) → r ≡ b → f l ≡ b
+whole-answer f l {n} e answered test = sym (of-whole f l n e) ∙ sym answered ∙ test

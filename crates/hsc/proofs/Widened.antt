@@ -22,8 +22,8 @@ short-pos {n} h =
     toZ-pos w32 below
 
 -- a bit that a call answered
-pub told-bit : {a b : Bool} → a ≡ b → toZ w32 (boolByte a) ≡ bitField b
-told-bit {a} e = as-number a ∙ ap bitField e
+pub bit-answer : {a b : Bool} → a ≡ b → toZ w32 (boolByte a) ≡ bitField b
+bit-answer {a} e = as-number a ∙ ap bitField e
   where
     as-number : (b : Bool) → toZ w32 (boolByte b) ≡ bitField b
     as-number true = refl

@@ -66,7 +66,7 @@ fn shown_row(c: Counter) -> [i32; 6]
     ]
 }
 
-// The row over the numbers from place at.
+// The row over the numbers from index at.
 fn copy_row(fields: &mut [i32], at: usize, row: &[i32])
     requires { ⌜ at + length (now row) ≤ length (now fields) ⌝ }
     ensures { λ _. ⌜ now (fields .exit) ≡ put (now (fields .entry)) at (now (row .entry)) ⌝ }

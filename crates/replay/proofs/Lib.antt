@@ -12,4 +12,4 @@ pub mod Mending
 pub mod Claim
 pub mod Theorem
 pub mod Scan
-pub mod Turns
+pub mod Iterations

@@ -2,7 +2,7 @@
 use borrow.Author.Needs.{needs}
 use Rattle.word.proofs.TwosComplement.{signed-unsigned}
 use Rattle.counter.specs.Shown.{hpr}
-use Rattle.counter.proofs.Told.{settings-told, counter-told}
+use Rattle.counter.proofs.Typing.{settings-typed, counter-typed}
 use Rattle.counter.proofs.reading.hpr.Statement.{statement}
 use Rattle.counter.proofs.reading.hpr.Tie as tie
 
@@ -13,8 +13,8 @@ returns : tie.Need-returns
 unfolding hpr
 returns c =
     let k = c .before .before .before .before .before .before .args .c in
-    let a = settings-told (k .active) _ (c .before .before .struct-told .given) in
-    let t = counter-told k _ (c .struct-told2 .given) in
+    let a = settings-typed (k .active) _ (c .before .before .struct-told .given) in
+    let t = counter-typed k _ (c .struct-told2 .given) in
     simp (c .before .before .before .before .has .ensures, signed-unsigned (a .hip), signed-unsigned (t .acc))
 
 pub hpr-spec : {M : Type 1} → statement M

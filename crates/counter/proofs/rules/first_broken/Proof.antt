@@ -1,7 +1,7 @@
 -- `counter::rules::first_broken` meets its contract: rules 1 and 2 are the definition's, and the others are those of the presets.
 use Rattle.word.proofs.TwosComplement.{signed-unsigned}
 use Rattle.counter.specs.Loading.{brokenFrom, firstBroken, presetBroken}
-use Rattle.counter.proofs.Told.{settings-told}
+use Rattle.counter.proofs.Typing.{settings-typed}
 use borrow.Author.Needs.{needs}
 use Rattle.counter.proofs.rules.first_broken.Statement.{statement}
 use Rattle.counter.proofs.rules.first_broken.Tie as tie
@@ -27,7 +27,7 @@ returns c =
     let ruled = c .before .before .before in
     let moded = ruled .before in
     let preset = moded .before .before in
-    let t = settings-told (preset .before .args .s) _ (moded .before .struct-told .given) in
+    let t = settings-typed (preset .before .args .s) _ (moded .before .struct-told .given) in
     simp (
       c .broken-or2 .ensures,
       c .before .routine-rule .ensures,

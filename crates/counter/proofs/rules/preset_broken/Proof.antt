@@ -1,7 +1,7 @@
 -- `counter::rules::preset_broken` meets its contract: the rules are asked of the parts that the definition names.
 use Rattle.word.proofs.TwosComplement.{signed-unsigned}
 use Rattle.counter.specs.Loading.{presetBroken}
-use Rattle.counter.proofs.Told.{settings-told}
+use Rattle.counter.proofs.Typing.{settings-typed}
 use borrow.Author.Needs.{needs}
 use Rattle.counter.proofs.rules.preset_broken.Statement.{statement}
 use Rattle.counter.proofs.rules.preset_broken.Tie as tie
@@ -17,8 +17,8 @@ unfolding presetBroken
 returns c =
     let moded = c .before .before .before .before .before in
     let args = moded .before .before .args in
-    let a = settings-told (args .a) _ (moded .before .struct-told .given) in
-    let s = settings-told (args .s) _ (c .before .before .before .before .struct-told2 .given) in
+    let a = settings-typed (args .a) _ (moded .before .struct-told .given) in
+    let s = settings-typed (args .s) _ (c .before .before .before .before .struct-told2 .given) in
     simp (
       c .limits-broken .ensures,
       moded .mode-of .ensures,

@@ -5,7 +5,7 @@ use mir.Val.{SFits}
 use Rattle.word.proofs.TwosComplement.{signed-unsigned}
 use Rattle.counter.specs.Parts.{upOnly, mode}
 use Rattle.counter.specs.Sample.{upOf}
-use Rattle.counter.proofs.Told.{settings-told, counter-told, counted-told}
+use Rattle.counter.proofs.Typing.{settings-typed, counter-typed, counted-typed}
 use borrow.Author.Needs.{needs}
 use Rattle.counter.proofs.sampling.counted_up.Statement.{statement}
 use Rattle.counter.proofs.sampling.counted_up.Tie as tie
@@ -16,8 +16,8 @@ single c = c .up-only .ensures ∙ simp (c .before .mode .ensures)
 counted : (c : tie.After-up) → c .up .result ≡ upOf (c .before .before .before .before .before .before .before .before .args .c)
 counted c =
     let k = c .before .before .before .before .before .before .before .before .args .c in
-    let t = counter-told k _ (c .before .before .before .before .struct-told .given) in
-    let a = settings-told (k .active) _ (c .before .before .before .struct-told2 .given) in
+    let t = counter-typed k _ (c .before .before .before .before .struct-told .given) in
+    let a = settings-typed (k .active) _ (c .before .before .before .struct-told2 .given) in
     simp (
       c .up .ensures,
       single (c .before .before .before .before .before),
@@ -44,7 +44,7 @@ returns c =
     let flagged = c .before in
     let up-done = flagged .before in
     let k = up-done .before .before .before .before .before .before .before .before .args .c in
-    let fits : SFits w32 (upOf k .acc) = rw (counted up-done) at (counted-told (up-done .up .result) _ (c .struct-told5 .given)) in
+    let fits : SFits w32 (upOf k .acc) = rw (counted up-done) at (counted-typed (up-done .up .result) _ (c .struct-told5 .given)) in
     simp (flagged .up-flags .ensures, counted up-done, signed-unsigned fits, single (up-done .before .before .before .before .before))
 
 pub counted-up-spec : {M : Type 1} → statement M

@@ -8,7 +8,7 @@ use mir.Val.{SFits, hbits}
 use Rattle.word.specs.TwosComplement.{unsigned, eqZ}
 use Rattle.word.proofs.Branches.{eq-bits}
 use Rattle.counter.specs.WellFormed.{isNone}
-use Rattle.counter.proofs.Told.{settings-told}
+use Rattle.counter.proofs.Typing.{settings-typed}
 use Rattle.counter.proofs.wellformed.is_none.Statement.{statement}
 use Rattle.counter.proofs.wellformed.is_none.Tie as tie
 
@@ -18,9 +18,9 @@ zero w f = eq-bits f (record { sfits = pow-pos (hbits w) })
 returns : tie.Need-returns
 unfolding isNone
 returns c =
-    let told = c .before .before .before in
-    let s = told .before .before .before .before .before .before .before .before .before .before .before .before .args .s in
-    let t = settings-told s _ (told .struct-told6 .given) in
+    let matched = c .before .before .before in
+    let s = matched .before .before .before .before .before .before .before .before .before .before .before .before .args .s in
+    let t = settings-typed s _ (matched .struct-told6 .given) in
     rw (zero w16 (t .pfn), zero w16 (t .mode), zero w32 (t .hip), zero w32 (t .lop), zero w32 (t .ovf), zero w32 (t .unf))
 
 pub is-none-spec : {M : Type 1} → statement M

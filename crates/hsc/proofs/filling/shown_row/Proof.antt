@@ -1,7 +1,7 @@
 -- `hsc::filling::shown_row` meets its contract: each bit is the one that the definition shows, as 1 or 0.
 use borrow.Author.Needs.{needs}
 use mathlib.Core.List.{[], _∷_}
-use Rattle.hsc.proofs.Widened.{told-bit}
+use Rattle.hsc.proofs.Widened.{bit-answer}
 use Rattle.hsc.proofs.filling.shown_row.Statement.{statement}
 use Rattle.hsc.proofs.filling.shown_row.Tie as tie
 
@@ -48,12 +48,12 @@ returns c =
     let cu = cd .before in
     let uip = cu .before in
     let uix = uip .before in
-    λ i. told-bit (uix .uix .ensures) i
-    ∷ told-bit (uip .uip .ensures) i
-    ∷ told-bit (cu .cu .ensures) i
-    ∷ told-bit (cd .cd .ensures) i
-    ∷ told-bit (hpr .hpr .ensures) i
-    ∷ told-bit (c .lpr .ensures) i
+    λ i. bit-answer (uix .uix .ensures) i
+    ∷ bit-answer (uip .uip .ensures) i
+    ∷ bit-answer (cu .cu .ensures) i
+    ∷ bit-answer (cd .cd .ensures) i
+    ∷ bit-answer (hpr .hpr .ensures) i
+    ∷ bit-answer (c .lpr .ensures) i
     ∷ []
 
 pub shown-row-spec : {M : Type 1} → statement M

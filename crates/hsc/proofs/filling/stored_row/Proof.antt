@@ -3,7 +3,7 @@ use borrow.Author.Needs.{needs}
 use mathlib.Core.List.{[], _∷_}
 use mir.Syntax.{w32}
 use Rattle.word.proofs.TwosComplement.{signed-unsigned, signed-read}
-use Rattle.counter.proofs.Told.{counter-told}
+use Rattle.counter.proofs.Typing.{counter-typed}
 use Rattle.hsc.proofs.Widened.{short-pos}
 use Rattle.hsc.proofs.filling.stored_row.Statement.{statement}
 use Rattle.hsc.proofs.filling.stored_row.Tie as tie
@@ -43,11 +43,11 @@ returns c =
     let levels = running .before in
     let flags = levels .before in
     let start = flags .before .before .before .before .before in
-    let told = c .struct-told .given in
-    let typed = counter-told (start .args .c) _ told in
+    let matched = c .struct-told .given in
+    let typed = counter-typed (start .args .c) _ matched in
     λ i. signed-unsigned (typed .acc) i
-    ∷ short-pos (told .1 .1 .1 .0 .1) i
-    ∷ short-pos (told .1 .1 .1 .1 .0 .1) i
+    ∷ short-pos (matched .1 .1 .1 .0 .1) i
+    ∷ short-pos (matched .1 .1 .1 .1 .0 .1) i
     ∷ signed-read w32 (record { sfits = flags .i32-of .ok }) (flags .i32-of .ensures) i
     ∷ signed-read w32 (record { sfits = levels .wide .ok }) (levels .wide .ensures) i
     ∷ signed-read w32 (record { sfits = running .wide2 .ok }) (running .wide2 .ensures) i

@@ -22,11 +22,11 @@ answer c =
     mendAnswer (now (args .image)) (args .first) (now (args .patch))
 
 -- and what the match told of it
-refused-told : (c : tie.After-known-told) → refusal (c .before .r .given .0 .0) ≡ answer (c .before .before .before .before .before)
-refused-told c = sym (ap mendOf (c .before .r .given .1)) ∙ c .before .before .before .before .before .mend .ensures .0
+refused-answered : (c : tie.After-known-told) → refusal (c .before .r .given .0 .0) ≡ answer (c .before .before .before .before .before)
+refused-answered c = sym (ap mendOf (c .before .r .given .1)) ∙ c .before .before .before .before .before .mend .ensures .0
 
-given-told : (c : tie.After-known-told2) → given (c .before .s .given .0 .0) ≡ answer (c .before .before .before .before .before)
-given-told c = sym (ap mendOf (c .before .s .given .1)) ∙ c .before .before .before .before .before .mend .ensures .0
+given-answered : (c : tie.After-known-told2) → given (c .before .s .given .0 .0) ≡ answer (c .before .before .before .before .before)
+given-answered c = sym (ap mendOf (c .before .s .given .1)) ∙ c .before .before .before .before .before .mend .ensures .0
 
 mend-requires : tie.Need-mend-requires
 mend-requires c κs = search needs
@@ -35,16 +35,16 @@ enum-known-r : tie.Need-enum-known-r
 enum-known-r c = search needs
 
 status-of-requires : tie.Need-status-of-requires
-status-of-requires c κs = subst Placed (sym (refused-told c)) (mend-placed _ _ _)
+status-of-requires c κs = subst Placed (sym (refused-answered c)) (mend-placed _ _ _)
 
 enum-known-s : tie.Need-enum-known-s
 enum-known-s c = search needs
 
 cast-write-span : tie.Need-cast-write-span
-cast-write-span c = omega (arith, mend-numbers _ _ _ (given-told (c .before .before)) .first)
+cast-write-span c = omega (arith, mend-numbers _ _ _ (given-answered (c .before .before)) .first)
 
 cast-write-span-2 : tie.Need-cast-write-span-2
-cast-write-span-2 c = omega (arith, mend-numbers _ _ _ (given-told (c .before .before .before)) .stop)
+cast-write-span-2 c = omega (arith, mend-numbers _ _ _ (given-answered (c .before .before .before)) .stop)
 
 write-span-requires : tie.Need-write-span-requires
 write-span-requires c κs = search needs
@@ -54,11 +54,11 @@ same-length c = search needs
 
 returns : tie.Need-returns
 returns c =
-    let told = c .before in
-    let asked = told .before .before .before .before .before in
+    let matched = c .before in
+    let asked = matched .before .before .before .before .before in
     let old = now (asked .before .before .before .before .args .span) in (
-      c .status-of .ensures ∙ ap statusOf (refused-told told),
-      (asked .mend .ensures .1 .0, ap (λ (a : Answer Span). after a old pair) (refused-told told)),
+      c .status-of .ensures ∙ ap statusOf (refused-answered matched),
+      (asked .mend .ensures .1 .0, ap (λ (a : Answer Span). after a old pair) (refused-answered matched)),
     )
 
 same-length-2 : tie.Need-same-length-2
@@ -66,11 +66,11 @@ same-length-2 c = search needs
 
 returns-2 : tie.Need-returns-2
 returns-2 c =
-    let told = c .before .before .before .before in
-    let asked = told .before .before .before .before .before in
+    let matched = c .before .before .before .before in
+    let asked = matched .before .before .before .before .before in
     let old = now (asked .before .before .before .before .args .span) in (
-      ap statusOf (given-told told),
-      (asked .mend .ensures .1 .0, c .write-span .ensures ∙ ap (λ (a : Answer Span). after a old pair) (given-told told)),
+      ap statusOf (given-answered matched),
+      (asked .mend .ensures .1 .0, c .write-span .ensures ∙ ap (λ (a : Answer Span). after a old pair) (given-answered matched)),
     )
 
 pub hsc-mend-spec : {M : Type 1} → statement M

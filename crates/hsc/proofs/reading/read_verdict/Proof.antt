@@ -4,7 +4,7 @@ use borrow.Author.Tests.{eq-eqb, ne-eqb, not-true, not-false}
 use denote.Ref.{now}
 use Rattle.snapshot.specs.FormedBytes.{formed}
 use Rattle.hsc.specs.Calls.{readVerdict}
-use Rattle.hsc.proofs.Whole.{told-whole}
+use Rattle.hsc.proofs.Whole.{whole-answer}
 use Rattle.hsc.proofs.reading.read_verdict.Statement.{statement}
 use Rattle.hsc.proofs.reading.read_verdict.Tie as tie
 
@@ -21,7 +21,7 @@ returns-2 c =
     let asked = c .before in
     let sized = asked .before in
     let snapshot = now (sized .before .before .args .snapshot) in
-    rw (eq-eqb _ _ (sized .if1 .left), told-whole formed snapshot (sized .if1 .left) (asked .formed .ensures) (not-true _ (c .if2 .taken)))
+    rw (eq-eqb _ _ (sized .if1 .left), whole-answer formed snapshot (sized .if1 .left) (asked .formed .ensures) (not-true _ (c .if2 .taken)))
 
 returns-3 : tie.Need-returns-3
 unfolding readVerdict
@@ -29,7 +29,7 @@ returns-3 c =
     let asked = c .before in
     let sized = asked .before in
     let snapshot = now (sized .before .before .args .snapshot) in
-    rw (eq-eqb _ _ (sized .if1 .left), told-whole formed snapshot (sized .if1 .left) (asked .formed .ensures) (not-false _ (c .if2 .left)))
+    rw (eq-eqb _ _ (sized .if1 .left), whole-answer formed snapshot (sized .if1 .left) (asked .formed .ensures) (not-false _ (c .if2 .left)))
 
 pub read-verdict-spec : {M : Type 1} → statement M
 read-verdict-spec =

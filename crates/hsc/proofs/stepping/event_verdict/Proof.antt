@@ -4,7 +4,7 @@ use borrow.Author.Tests.{not-true, not-false}
 use denote.Ref.{now}
 use Rattle.snapshot.specs.FormedBytes.{formed}
 use Rattle.snapshot.specs.EventBytes.{legalEvent}
-use Rattle.hsc.proofs.Whole.{told-whole}
+use Rattle.hsc.proofs.Whole.{whole-answer}
 use Rattle.hsc.proofs.stepping.event_verdict.Statement.{statement}
 use Rattle.hsc.proofs.stepping.event_verdict.Tie as tie
 
@@ -15,7 +15,7 @@ returns : tie.Need-returns
 returns c =
     let asked = c .before in
     let start = asked .before .before .before in
-    rw (told-whole legalEvent (now (start .args .event)) (start .pre .1) (asked .legal-event .ensures) (not-true _ (c .if1 .taken)))
+    rw (whole-answer legalEvent (now (start .args .event)) (start .pre .1) (asked .legal-event .ensures) (not-true _ (c .if1 .taken)))
 
 formed-requires : tie.Need-formed-requires
 formed-requires c κs = search needs
@@ -26,8 +26,8 @@ returns-2 c =
     let first = asked .before in
     let start = first .before .before .before .before in
     rw (
-      told-whole legalEvent (now (start .args .event)) (start .pre .1) (first .before .legal-event .ensures) (not-false _ (first .if1 .left)),
-      told-whole formed (now (start .args .snapshot)) (start .pre .0) (asked .formed .ensures) (not-true _ (c .if2 .taken)),
+      whole-answer legalEvent (now (start .args .event)) (start .pre .1) (first .before .legal-event .ensures) (not-false _ (first .if1 .left)),
+      whole-answer formed (now (start .args .snapshot)) (start .pre .0) (asked .formed .ensures) (not-true _ (c .if2 .taken)),
     )
 
 returns-3 : tie.Need-returns-3
@@ -36,8 +36,8 @@ returns-3 c =
     let first = asked .before in
     let start = first .before .before .before .before in
     rw (
-      told-whole legalEvent (now (start .args .event)) (start .pre .1) (first .before .legal-event .ensures) (not-false _ (first .if1 .left)),
-      told-whole formed (now (start .args .snapshot)) (start .pre .0) (asked .formed .ensures) (not-false _ (c .if2 .left)),
+      whole-answer legalEvent (now (start .args .event)) (start .pre .1) (first .before .legal-event .ensures) (not-false _ (first .if1 .left)),
+      whole-answer formed (now (start .args .snapshot)) (start .pre .0) (asked .formed .ensures) (not-false _ (c .if2 .left)),
     )
 
 pub event-verdict-spec : {M : Type 1} → statement M

@@ -1,7 +1,7 @@
 -- `report::office::accepted_line` meets its contract: the line is that of the numbers that were read.
 use borrow.Author.Needs.{needs}
 use Rattle.word.proofs.TwosComplement.{signed-unsigned}
-use Rattle.counter.proofs.Told.{counter-told}
+use Rattle.counter.proofs.Typing.{counter-typed}
 use Rattle.report.proofs.office.accepted_line.Statement.{statement}
 use Rattle.report.proofs.office.accepted_line.Tie as tie
 
@@ -23,11 +23,11 @@ same-length c = search needs
 returns : tie.Need-returns
 returns c =
     let done = c .before .before in
-    let told = done .before in
-    let decoded = told .before .before in
+    let matched = done .before in
+    let decoded = matched .before .before in
     let snapshots = decoded .before in
     let events = snapshots .before in
-    let acc = signed-unsigned (counter-told (decoded .decode .result) _ (told .struct-told .given) .acc) in
+    let acc = signed-unsigned (counter-typed (decoded .decode .result) _ (matched .struct-told .given) .acc) in
     let line = rw (acc, decoded .decode .ensures, events .number .ensures, snapshots .number2 .ensures) at (done .replay-line .ensures .0) in
     (line, done .replay-line .ensures .1)
 

@@ -31,8 +31,8 @@ abbrev image : tie.After-replay → List ℕ
 image c = now (start c .args .image)
 
 -- the answer that the line is of
-abbrev told : tie.After-replay → Answer Counter
-told c = replayVerdict (image c) andThen given (finalState (image c))
+abbrev answered : tie.After-replay → Answer Counter
+answered c = replayVerdict (image c) andThen given (finalState (image c))
 
 abbrev line : tie.After-replay → Answer Counter → List ℕ
 line c x = lineOf (eventCount (image c)) (snapshotCount (image c)) x
@@ -42,8 +42,8 @@ line c x = lineOf (eventCount (image c)) (snapshotCount (image c)) x
 abbrev refused : tie.After-known-told → tie.After-replay
 refused c = c .before .before .before .before .before
 
-refused-told : (c : tie.After-known-told) → refusal (c .before .r .given .0 .0) ≡ told (refused c)
-refused-told c =
+refused-answered : (c : tie.After-known-told) → refusal (c .before .r .given .0 .0) ≡ answered (refused c)
+refused-answered c =
     refused-then (refused c .replay .result) (replayVerdict (image (refused c))) (refused c .replay .ensures .0) _ (c .before .r .given .1)
     (given (finalState (image (refused c))))
 
@@ -79,8 +79,8 @@ module _ (c : tie.After-enum-told) where
   whole : length last ≡ snapshotSize
   whole = ap length (replayed .replay .ensures .1 .1) ∙ final-length (image replayed) bytes valid _ (omega arith)
 
-  given-told : given (decode (part last 0 snapshotSize)) ≡ told replayed
-  given-told =
+  given-answered : given (decode (part last 0 snapshotSize)) ≡ answered replayed
+  given-answered =
       let state = ap (λ (l : List ℕ). decode (part l 0 snapshotSize)) (replayed .replay .ensures .1 .1) ∙ final-decoded (image replayed) bytes valid _ in
       accepted-then (replayed .replay .result) (replayVerdict (image replayed)) (replayed .replay .ensures .0) (c .enum-told .given .1) (ap given state)
 
@@ -124,7 +124,7 @@ returns c =
     let placed = done .before in
     let known = placed .before .before .before in
     let numbers = ap₂ refusalLine (placed .before .number-of .ensures) (placed .place-of .ensures) in
-    (done .refusal-line .ensures .0 ∙ numbers ∙ ap (line (refused known)) (refused-told known), done .refusal-line .ensures .1)
+    (done .refusal-line .ensures .0 ∙ numbers ∙ ap (line (refused known)) (refused-answered known), done .refusal-line .ensures .1)
 
 same-length-3 : tie.Need-same-length-3
 same-length-3 c = search needs
@@ -138,7 +138,7 @@ returns-2 c =
     let at = done .before .before .before .before in
     let state = given (decode (part (last at) 0 snapshotSize)) in
     let counts = ap₂ (λ (a b : ℕ). lineOf a b state) (kept at 0 (omega arith)) (kept at 8 (omega arith)) in
-    (done .accepted-line .ensures .0 ∙ counts ∙ ap (line (replayed at)) (given-told at), done .accepted-line .ensures .1)
+    (done .accepted-line .ensures .0 ∙ counts ∙ ap (line (replayed at)) (given-answered at), done .accepted-line .ensures .1)
 
 pub answer-spec : {M : Type 1} → statement M
 answer-spec =

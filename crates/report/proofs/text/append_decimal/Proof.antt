@@ -34,8 +34,8 @@ same-length c = search needs
 returns : tie.Need-returns
 returns c =
     let called = c .before .before in
-    let told = called .before .before .before in
-    text-as (now (start told .args .word)) (written told) (called .append-both .ensures)
+    let matched = called .before .before .before in
+    text-as (now (start matched .args .word)) (written matched) (called .append-both .ensures)
 
 pub append-decimal-spec : {M : Type 1} → statement M
 append-decimal-spec =

@@ -14,7 +14,7 @@ use Rattle.word.proofs.Writes.{put-rows}
 use Rattle.counter.specs.declared.state.Counter.{Counter}
 use Rattle.counter.specs.Desk.{first, second}
 use Rattle.counter.specs.WellFormed.{Typed}
-use Rattle.counter.proofs.Told.{counter-told}
+use Rattle.counter.proofs.Typing.{counter-typed}
 use Rattle.snapshot.specs.Widths.{settingsLayout, snapshotLayout}
 use Rattle.snapshot.specs.Places.{activeAt, accAt, levelsAt}
 use Rattle.snapshot.specs.Snapshots.{settingsRow, encode}
@@ -75,12 +75,13 @@ returns : tie.Need-returns
 returns c =
     let causes = c .before .before in
     let words = causes .before .before .before .before in
-    let told = words .before in
-    let active = told .before .before .before .before in
+    let matched = words .before in
+    let active = matched .before .before .before .before in
     let staged = active .before .before .before .before in
     let start = staged .before .before .before .before .before in
     let a = start .args in
-    rows (a .c) (counter-told (a .c) _ (told .struct-told .given)) (now (a .s)) _ _ _ _ (a .at) (omega (arith, start .pre)) (staged .write-settings .ensures)
+    rows (a .c) (counter-typed (a .c) _ (matched .struct-told .given)) (now (a .s)) _ _ _ _ (a .at) (omega (arith, start .pre))
+    (staged .write-settings .ensures)
     (active .write-settings2 .ensures) (words .write-words .ensures) (causes .write-causes .ensures)
 
 pub encode-spec : {M : Type 1} → statement M

@@ -13,7 +13,7 @@ use Rattle.word.proofs.TwosComplement.{handed, bits-back}
 use Rattle.word.proofs.Writes.{put-rows}
 use Rattle.counter.specs.declared.state.Settings.{Settings}
 use Rattle.counter.specs.WellFormed.{SettingsTyped}
-use Rattle.counter.proofs.Told.{settings-told}
+use Rattle.counter.proofs.Typing.{settings-typed}
 use Rattle.snapshot.specs.Widths.{settingsLayout}
 use Rattle.snapshot.specs.Places.{hipAt, ombAt}
 use Rattle.snapshot.specs.Snapshots.{settingsRow}
@@ -63,10 +63,10 @@ returns c =
     let third = c .before .before in
     let second = third .before .before .before .before in
     let first = second .before .before .before .before .before .before .before .before in
-    let told = first .before .before in
-    let start = told .before .before .before in
+    let matched = first .before .before in
+    let start = matched .before .before .before in
     let a = start .args in
-    rows (a .v) (settings-told (a .v) _ (told .struct-told .given)) (now (a .s)) _ _ _ (a .at) (omega (arith, start .pre)) (first .write-modes .ensures)
+    rows (a .v) (settings-typed (a .v) _ (matched .struct-told .given)) (now (a .s)) _ _ _ (a .at) (omega (arith, start .pre)) (first .write-modes .ensures)
     (second .write-limits .ensures) (third .write-outputs .ensures)
 
 pub write-settings-spec : {M : Type 1} → statement M

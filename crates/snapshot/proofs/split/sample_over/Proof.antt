@@ -14,7 +14,7 @@ use Rattle.counter.specs.Desk.{empty}
 use Rattle.counter.specs.Interrupts.{raise}
 use Rattle.counter.specs.Sample.{sampled}
 use Rattle.counter.proofs.Samples.{sampled-desk}
-use Rattle.counter.proofs.Told.{sampled-told}
+use Rattle.counter.proofs.Typing.{sampled-typed}
 use Rattle.snapshot.specs.Widths.{movingLayout}
 use Rattle.snapshot.specs.Snapshots.{decode}
 use Rattle.snapshot.specs.Split.{splitState}
@@ -55,16 +55,17 @@ same-length-2 c = search needs
 returns : tie.Need-returns
 returns c =
     let wrote = c .before .before in
-    let told = wrote .before in
-    let test = told .before .before in
+    let matched = wrote .before in
+    let test = matched .before .before in
     let made = test .before .before in
     let start = entry made in
     let r = made .sampled .result in
     let new = start .args .new in
-    let fits = sampled-told r _ (told .struct-told .given) in
+    let fits = sampled-typed r _ (matched .struct-told .given) in
     let moving = wrote .write-moving .ensures ∙ ap (λ (v : ℤ). pack movingLayout (unsigned w32 v ∷ r .flags ∷ new ∷ [])) (signed-unsigned fits) in
     λ good. ap (splitState (now (start .args .s))) moving
-    ∙ split-moving (r .acc) (r .flags) new (now (start .args .s)) (now (start .args .moving)) fits (told .struct-told .given .1 .0 .1) (start .fits .new .fits)
+    ∙ split-moving (r .acc) (r .flags) new (now (start .args .s)) (now (start .args .moving)) fits
+    (matched .struct-told .given .1 .0 .1) (start .fits .new .fits)
     ∙ sample-quiet new (held made) r (made-of made) (test .if1 .taken)
 
 same-length-3 : tie.Need-same-length-3
@@ -76,12 +77,12 @@ same-length-4 c = search needs
 returns-2 : tie.Need-returns-2
 returns-2 c =
     let done = c .before .before .before .before in
-    let told = done .before in
-    let made = told .before .before .before .before .before in
+    let matched = done .before in
+    let made = matched .before .before .before .before .before in
     let start = entry made in
     let r = made .sampled .result in
     let new = start .args .new in
-    let fits = sampled-told r _ (told .struct-told2 .given) in
+    let fits = sampled-typed r _ (matched .struct-told2 .given) in
     let next =
     ap (λ (v : ℤ). raise (r .cause) (withFlags (r .flags) (withAcc v (withLevels new (decode (now (start .args .s))))))) (signed-unsigned fits)
     ∙ ap (raise (r .cause)) (sym (split-with (r .acc) (r .flags) new (now (start .args .s)) (now (start .args .moving))))

@@ -33,9 +33,9 @@ held c = splitState (now (entry c .args .s)) (now (entry c .args .moving))
 -- what the test says of the event's bytes
 asked-of : (c : tie.After-is-sample) {b : Bool} → c .is-sample .result ≡ b → isSample (event-of c .kind) (event-of c .sub) (event-of c .value) ≡ b
 asked-of c t =
-    let told = c .before in
-    let read = told .before in
-    let fits : SFits w32 (read .read-event .result .value) = record { sfits = told .struct-told .given .1 .1 .0 .1 } in
+    let matched = c .before in
+    let read = matched .before in
+    let fits : SFits w32 (read .read-event .result .value) = record { sfits = matched .struct-told .given .1 .1 .0 .1 } in
     sample-read fits (read .read-event .ensures) (c .is-sample .ensures) t
 
 read-event-requires : tie.Need-read-event-requires
@@ -87,14 +87,14 @@ returns-2 : tie.Need-returns-2
 unfolding stepEvent
 returns-2 c =
     let done = c .before .before .before .before in
-    let told = done .before in
-    let test = told .before .before .before in
+    let matched = done .before in
+    let test = matched .before .before .before in
     let asked = test .before in
     let read = asked .before .before in
     let e = event-of asked in
     let d = held asked in
     let x = read .read-event .result in
-    let fits : SFits w32 (x .value) = record { sfits = told .struct-told3 .given .1 .1 .0 .1 } in
+    let fits : SFits w32 (x .value) = record { sfits = matched .struct-told3 .given .1 .1 .0 .1 } in
     let next =
     ap (λ v. stepControl (x .kind) (x .sub) v d) (signed-unsigned fits)
     ∙ ap (λ (y : Event). stepControl (y .kind) (y .sub) (y .value) d) (read .read-event .ensures)

@@ -8,7 +8,7 @@ use mir.Syntax.{w32}
 use Rattle.word.specs.TwosComplement.{unsigned}
 use Rattle.word.specs.Layouts.{pack}
 use Rattle.word.proofs.TwosComplement.{signed-unsigned}
-use Rattle.counter.proofs.Told.{counter-told}
+use Rattle.counter.proofs.Typing.{counter-typed}
 use Rattle.snapshot.specs.Widths.{movingLayout}
 use Rattle.snapshot.specs.Split.{splitState}
 use Rattle.snapshot.proofs.Moving.{written-whole, split-written}
@@ -30,12 +30,12 @@ same-length-2 c = search needs
 returns : tie.Need-returns
 returns c =
     let moved = c .before .before in
-    let told = moved .before in
-    let encoded = told .before .before .before .before in
+    let matched = moved .before in
+    let encoded = matched .before .before .before .before in
     let start = encoded .before .before .before .before in
     let d = start .args .c in
     let bytes = written-whole (now (start .args .s)) d (start .pre .0) (encoded .encode .ensures) in
-    let fits = counter-told d _ (told .struct-told .given) .acc in
+    let fits = counter-typed d _ (matched .struct-told .given) .acc in
     let moving = moved .write-moving .ensures ∙ ap (λ (v : ℤ). pack movingLayout (unsigned w32 v ∷ d .flags ∷ d .levels ∷ [])) (signed-unsigned fits) in
     λ good. (λ i. splitState (bytes i) (moving i)) ∙ split-written d good
 

@@ -1,4 +1,4 @@
--- `tally::digit::advance` meets its contract. The invariant: `digit` is the state after the first i events; a turn is one event more.
+-- `tally::digit::advance` meets its contract. The invariant: `digit` is the state after the first i events; an iteration is one event more.
 -- The measure is what is left of the events.
 use mathlib.Core.Path.{_≡_, sym, ap, _∙_}
 use Prim.Native.Nat.{_+_, _-_, _*_, _≤_}

@@ -6,7 +6,7 @@ use native.Mathlib.Omega.{arith}
 use lib.ListN.{length}
 use Rattle.replay.specs.Image.{Shape, snapshots, firstSnapshot}
 use Rattle.replay.proofs.Image.{first-within}
-use Rattle.replay.proofs.Turns.{mend-whole}
+use Rattle.replay.proofs.Iterations.{mend-whole}
 use Rattle.replay.proofs.Theorem.{mended-by}
 use Rattle.tally.specs.Tally.{tally, shape}
 use Rattle.tally.proofs.Laws.{laws, event-at, snapshot-at, byte-read}

@@ -10,7 +10,7 @@ use Rattle.replay.specs.Image.{Shape}
 use Rattle.replay.specs.Mend.{mendOn}
 use Rattle.replay.proofs.Image.{place-within, spacing-within}
 use Rattle.replay.proofs.Loops.{mendOn-end}
-use Rattle.replay.proofs.Turns.{mend-stop, mend-turn}
+use Rattle.replay.proofs.Iterations.{mend-stop, mend-iteration}
 use Rattle.tally.specs.Tally.{tally, shape}
 use Rattle.tally.proofs.Laws.{event-at, snapshot-at, byte-stored, byte-compared}
 use Rattle.tally.proofs.trace.mend_on.Statement.{statement}
@@ -26,7 +26,7 @@ Inv-loop image₀ header count spacing end s start table last j₀ state₀ imag
 abbrev μ-loop : tie.MeasureT-loop
 μ-loop image₀ header count spacing end s start table last j₀ state₀ image j state = last - j
 
--- ---- what a turn knows: K events are left, and a snapshot follows
+-- ---- what an iteration knows: K events are left, and a snapshot follows
 
 abbrev shape-at : tie.At-loop Inv-loop μ-loop → Shape
 shape-at c = shape (c .before .before .args .header) (c .before .before .args .count) (c .before .before .args .spacing)
@@ -87,12 +87,13 @@ same-length c = omega arith
 returns : tie.Need-returns Inv-loop μ-loop
 returns c =
     let moved = c .before .before .before in
-    let turn = moved .before .before in
-    let image = turn .before .loop .image in
-    let tested = byte-compared image _ _ (next-inside turn) (allowed turn) (sym (c .if1 .taken) ∙ c .before .settled .ensures) in
-    mend-stop tally (g turn) image _ _ _ (turn .loop-test .taken) _ (event-at (g turn) _) (moved .advance .ensures) _ (snapshot-at (g turn) _)
+    let iteration = moved .before .before in
+    let image = iteration .before .loop .image in
+    let tested = byte-compared image _ _ (next-inside iteration) (allowed iteration) (sym (c .if1 .taken) ∙ c .before .settled .ensures) in
+    mend-stop tally (g iteration) image _ _ _ (iteration .loop-test .taken) _ (event-at (g iteration) _) (moved .advance .ensures) _
+    (snapshot-at (g iteration) _)
     _ _ _ tested refl refl
-    ∙ turn .before .loop .inv .1
+    ∙ iteration .before .loop .inv .1
 
 slice-write-image : tie.Need-slice-write-image Inv-loop μ-loop
 slice-write-image c = omega arith
@@ -103,14 +104,15 @@ loop-less c = omega arith
 loop-again : tie.Need-loop-again Inv-loop μ-loop
 loop-again c =
     let moved = c .before .before .before in
-    let turn = moved .before .before in
-    let image = turn .before .loop .image in
-    let tested = byte-compared image _ _ (next-inside turn) (allowed turn) (sym (c .if1 .left) ∙ c .before .settled .ensures) in (
+    let iteration = moved .before .before in
+    let image = iteration .before .loop .image in
+    let tested = byte-compared image _ _ (next-inside iteration) (allowed iteration) (sym (c .if1 .left) ∙ c .before .settled .ensures) in (
       omega arith,
-      mend-turn tally (g turn) image _ _ _ (turn .loop-test .taken) _ (event-at (g turn) _) (moved .advance .ensures) _ (snapshot-at (g turn) _)
-          _ _ _ tested (byte-stored image _ _ (next-inside turn)) refl
-          ∙ turn .before .loop .inv .1,
-      simp length-set (turn .before .loop .inv .2),
+      mend-iteration tally (g iteration) image _ _ _ (iteration .loop-test .taken) _ (event-at (g iteration) _) (moved .advance .ensures) _
+          (snapshot-at (g iteration) _)
+          _ _ _ tested (byte-stored image _ _ (next-inside iteration)) refl
+          ∙ iteration .before .loop .inv .1,
+      simp length-set (iteration .before .loop .inv .2),
     )
 
 add-result : tie.Need-add-result Inv-loop μ-loop

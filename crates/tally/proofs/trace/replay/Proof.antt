@@ -9,7 +9,7 @@ use Rattle.replay.specs.Image.{Shape, snapshotPlace}
 use Rattle.replay.specs.Replay.{replayOn}
 use Rattle.replay.proofs.Image.{spacing-within}
 use Rattle.replay.proofs.Loops.{replayOn-end}
-use Rattle.replay.proofs.Turns.{begun-first, replay-turn, replay-whole}
+use Rattle.replay.proofs.Iterations.{begun-first, replay-iteration, replay-whole}
 use Rattle.tally.specs.Tally.{digitIn, tally, shape}
 use Rattle.tally.proofs.Laws.{laws, event-at, snapshot-at, byte-stored}
 use Rattle.tally.proofs.trace.replay.Statement.{statement}
@@ -25,7 +25,7 @@ Inv-loop image₀ header count spacing table last state₀ j₀ image state j =
 abbrev μ-loop : tie.MeasureT-loop
 μ-loop image₀ header count spacing table last state₀ j₀ image state j = last - j
 
--- the shape of the image, and that a whole stretch of events is left in a turn
+-- the shape of the image, and that a whole stretch of events is left in an iteration
 abbrev shape-at : tie.At-loop Inv-loop μ-loop → Shape
 shape-at c = shape (c .before .before .args .header) (c .before .before .args .count) (c .before .before .args .spacing)
 
@@ -70,10 +70,10 @@ loop-again : tie.Need-loop-again Inv-loop μ-loop
 loop-again c =
     let in-loop = c .before .before in
     let at-loop = in-loop .before in
-    let turn =
-    replay-turn tally (shape-at at-loop) _ _ _ _ (in-loop .loop-test .taken) _ (event-at (shape-at at-loop) _) (c .advance .ensures) _
+    let iteration =
+    replay-iteration tally (shape-at at-loop) _ _ _ _ (in-loop .loop-test .taken) _ (event-at (shape-at at-loop) _) (c .advance .ensures) _
     (snapshot-at (shape-at at-loop) _) _ (byte-stored _ _ _ (slice-write-image-2 c)) in
-    (omega arith, turn ∙ at-loop .loop .inv .1, simp length-set (at-loop .loop .inv .2))
+    (omega arith, iteration ∙ at-loop .loop .inv .1, simp length-set (at-loop .loop .inv .2))
 
 same-length : tie.Need-same-length Inv-loop μ-loop
 same-length c = omega arith

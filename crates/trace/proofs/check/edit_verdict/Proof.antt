@@ -51,12 +51,12 @@ div-start-verdict c = rw (c .number2 .ensures) (passes (c .before .before .befor
 
 start-verdict-requires : tie.Need-start-verdict-requires
 start-verdict-requires c κs =
-    let told = c .before in
-    let asked = told .before .before in
+    let matched = c .before in
+    let asked = matched .before .before in
     let known = asked .before .before .before in
     let start = known .before .before in
     let image = start .args .image .now in
-    let fits = patch-passed _ _ _ _ (accepted-answer _ _ (patch-answer asked) (told .enum-told2 .given .1)) in
+    let fits = patch-passed _ _ _ _ (accepted-answer _ _ (patch-answer asked) (matched .enum-told2 .given .1)) in
     let inside = first-within (shapeOf image) (start .args .first) (passes known .header .limits .spaced) (omega (arith, fits .within)) in
     (start .pre, rw (c .number2 .ensures) (omega (arith, inside)))
 
@@ -67,10 +67,10 @@ returns c = refused-first _ _ (patch-answer (c .before .before)) _ (c .enum-told
 returns-2 : tie.Need-returns-2
 unfolding editVerdict
 returns-2 c =
-    let told = c .before .before in
-    let asked = told .before .before in
+    let matched = c .before .before in
+    let asked = matched .before .before in
     let args = asked .before .before .before .before .before .args in
-    accepted-then _ _ (patch-answer asked) (told .enum-told2 .given .1)
+    accepted-then _ _ (patch-answer asked) (matched .enum-told2 .given .1)
     (c .start-verdict .ensures ∙ ap (λ (k : ℕ). startVerdict (args .image .now) (args .first / k)) (c .before .number2 .ensures))
 
 pub edit-verdict-spec : {M : Type 1} → statement M

@@ -42,8 +42,8 @@ returns-2 : tie.Need-returns-2
 unfolding imageVerdict
 returns-2 c =
     let asked = c .before .before in
-    let told = asked .before in
-    accepted-then _ _ (told .before .before .verdict .ensures) (told .enum-told2 .given .1)
+    let matched = asked .before in
+    accepted-then _ _ (matched .before .before .verdict .ensures) (matched .enum-told2 .given .1)
     (refused-first _ _ (asked .length-verdict .ensures) _ (c .enum-told3 .given .1) _)
 
 returns-3 : tie.Need-returns-3
@@ -51,8 +51,8 @@ unfolding imageVerdict
 returns-3 c =
     let last = c .before in
     let asked = last .before .before in
-    let told = asked .before in
-    accepted-then _ _ (told .before .before .verdict .ensures) (told .enum-told2 .given .1)
+    let matched = asked .before in
+    accepted-then _ _ (matched .before .before .verdict .ensures) (matched .enum-told2 .given .1)
     (accepted-then _ _ (asked .length-verdict .ensures) (last .enum-told4 .given .1) (c .events-verdict .ensures))
 
 pub image-verdict-spec : {M : Type 1} → statement M

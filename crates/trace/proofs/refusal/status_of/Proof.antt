@@ -28,17 +28,17 @@ mul-result c = omega (arith, c .place-of .ensures, place-few (c .before .before)
 
 add-result : tie.Need-add-result
 add-result c =
-    let told = c .before .before in
-    omega (arith, c .place-of .ensures, place-few told, c .before .number-of .ensures, number-range (told .before .verdict .given .0 .0) .1)
+    let matched = c .before .before in
+    omega (arith, c .place-of .ensures, place-few matched, c .before .number-of .ensures, number-range (matched .before .verdict .given .0 .0) .1)
 
 enum-told : tie.Need-enum-told
 enum-told c = search needs
 
 returns : tie.Need-returns
 returns c =
-    let told = c .before .before in
+    let matched = c .before .before in
     (λ i. c .before .number-of .ensures i + c .place-of .ensures i * 2 ^ 32)
-    ∙ sym (ap (λ (v : Verdict). statusOf (verdictOf v)) (told .before .verdict .given .1))
+    ∙ sym (ap (λ (v : Verdict). statusOf (verdictOf v)) (matched .before .verdict .given .1))
 
 returns-2 : tie.Need-returns-2
 returns-2 c = search needs

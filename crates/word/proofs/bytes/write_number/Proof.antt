@@ -1,4 +1,4 @@
--- `word::bytes::write_number` meets its contract. At each turn, writing the bytes that are left gives the goal: the byte written and
+-- `word::bytes::write_number` meets its contract. At each iteration, writing the bytes that are left gives the goal: the byte written and
 -- the rest beside it are one write.
 use mathlib.Core.Path.{_≡_, refl, sym, _∙_}
 use mathlib.Core.List.{List, [], _∷_}

@@ -57,13 +57,13 @@ loop-less c = omega arith
 
 loop-again : tie.Need-loop-again Inv-loop μ-loop
 loop-again c =
-    let turn = c .before .before in
-    let at-loop = turn .before in
+    let iteration = c .before .before in
+    let at-loop = iteration .before in
     let checked = at-loop .before in
     let args = checked .before .args in
     let all = at-loop .loop .all in (
       search needs,
-      next (args .a .now) (args .b .now) (checked .if1 .left) all (at-loop .loop .i) (turn .loop-test .taken) ∙ at-loop .loop .inv .1,
+      next (args .a .now) (args .b .now) (checked .if1 .left) all (at-loop .loop .i) (iteration .loop-test .taken) ∙ at-loop .loop .inv .1,
     )
 
 returns-2 : tie.Need-returns-2 Inv-loop μ-loop

@@ -15,8 +15,8 @@ use Rattle.counter.proofs.state.Counter as counter
 use Rattle.counter.proofs.state.Counted as counted
 use Rattle.counter.proofs.state.Sampled as sampled
 
-pub settings-told : (s : Settings) (vss : Valss (fields settings.the-type)) → AreAll (fields settings.the-type) (settings.the-type .to s) vss → SettingsTyped s
-settings-told s vss g =
+pub settings-typed : (s : Settings) (vss : Valss (fields settings.the-type)) → AreAll (fields settings.the-type) (settings.the-type .to s) vss → SettingsTyped s
+settings-typed s vss g =
     record {
       pfn = record { sfits = g .0 .1 };
       mode = record { sfits = g .1 .0 .1 };
@@ -29,17 +29,17 @@ settings-told s vss g =
       lpo = g .1 .1 .1 .1 .1 .1 .1 .1 .0 .1;
     }
 
-pub counter-told : (c : Counter) (vss : Valss (fields counter.the-type)) → AreAll (fields counter.the-type) (counter.the-type .to c) vss → Typed c
-counter-told c vss g =
+pub counter-typed : (c : Counter) (vss : Valss (fields counter.the-type)) → AreAll (fields counter.the-type) (counter.the-type .to c) vss → Typed c
+counter-typed c vss g =
     record {
-      staged = settings-told (c .staged) (g .0 .0) (g .0 .1 .1);
-      active = settings-told (c .active) (g .1 .0 .0) (g .1 .0 .1 .1);
+      staged = settings-typed (c .staged) (g .0 .0) (g .0 .1 .1);
+      active = settings-typed (c .active) (g .1 .0 .0) (g .1 .0 .1 .1);
       acc = record { sfits = g .1 .1 .0 .1 };
       waiting = search needs;
     }
 
-pub counted-told : (r : Counted) (vss : Valss (fields counted.the-type)) → AreAll (fields counted.the-type) (counted.the-type .to r) vss → SFits w32 (r .acc)
-counted-told r vss g = record { sfits = g .0 .1 }
+pub counted-typed : (r : Counted) (vss : Valss (fields counted.the-type)) → AreAll (fields counted.the-type) (counted.the-type .to r) vss → SFits w32 (r .acc)
+counted-typed r vss g = record { sfits = g .0 .1 }
 
-pub sampled-told : (r : Sampled) (vss : Valss (fields sampled.the-type)) → AreAll (fields sampled.the-type) (sampled.the-type .to r) vss → SFits w32 (r .acc)
-sampled-told r vss g = record { sfits = g .0 .1 }
+pub sampled-typed : (r : Sampled) (vss : Valss (fields sampled.the-type)) → AreAll (fields sampled.the-type) (sampled.the-type .to r) vss → SFits w32 (r .acc)
+sampled-typed r vss g = record { sfits = g .0 .1 }
