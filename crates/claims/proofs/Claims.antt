@@ -28,19 +28,19 @@ use Rattle.snapshot.specs.Snapshots.{encode, decode}
 use Rattle.snapshot.specs.FormedBytes.{formed}
 use Rattle.snapshot.specs.EventBytes.{legalEvent, stepEvent}
 use Rattle.snapshot.specs.Split.{splitState, HoldsIfGood}
+use Rattle.refusal.specs.declared.Refusal.{Refusal}
+use Rattle.refusal.specs.declared.Verdict.{Verdict}
+use Rattle.refusal.specs.Refusals.{Answer, refused, given, numberOf, verdictOf, statusOf, Placed, changedIf}
 use Rattle.replay.specs.System.{System, Laws}
 use Rattle.replay.specs.Image.{Shape, snapshots, snapshotPlace, firstSnapshot, eventPlace, changed, Fitting}
 use Rattle.replay.specs.Events.{firstIllegal}
 use Rattle.replay.specs.Replay as any
 use Rattle.replay.specs.Mend.{mend}
 use Rattle.replay.specs.Claim.{Mended}
-use Rattle.trace.specs.declared.refusal.Refusal.{Refusal}
-use Rattle.trace.specs.declared.refusal.Verdict.{Verdict}
 use Rattle.trace.specs.declared.edition.Edition.{Edition}
 use Rattle.trace.specs.declared.mending.Span.{Span}
 use Rattle.trace.specs.declared.mending.Mending.{Mending}
 use Rattle.trace.specs.Editions.{system}
-use Rattle.trace.specs.Refusals.{Answer, refused, given, numberOf, verdictOf, statusOf, Placed, changedIf}
 use Rattle.trace.specs.Header.{shapeOf, systemOf}
 use Rattle.trace.specs.Verdicts.{replayVerdict, ValidTrace}
 use Rattle.trace.specs.Replays.{TrueTable, finalState, replayImage, replayLast}
@@ -50,6 +50,7 @@ use Rattle.hsc.specs.Version.{version}
 use Rattle.hsc.specs.Calls.{checkAnswer, stepAnswer, stepAfter, readAnswer, readAfter, replayStatus, mendStatus, mendSpan}
 use Rattle.report.specs.Office.{officeLine}
 use Rattle.word.proofs as word
+use Rattle.refusal.proofs.Answers as refusals
 use Rattle.counter.proofs as counter
 use Rattle.snapshot.proofs as snapshot
 use Rattle.replay.proofs as replay
@@ -124,7 +125,7 @@ scan-legal = replay.Scan.scan-legal
 
 -- refusals have the numbers 1 to 9
 pub number-range : (r : Refusal) → (1 ≤ numberOf r) × (numberOf r ≤ 9)
-number-range = trace.Answers.number-range
+number-range = refusals.number-range
 
 -- every place of a refusal by replay or mending fits its half of the status
 pub replay-placed : (image : List ℕ) → Placed (replayVerdict image)
@@ -142,11 +143,11 @@ status-place = hsc.Halves.status-place
 
 -- status 0 says that nothing is refused
 pub status-done : (v : Verdict) → statusOf (verdictOf v) ≡ 0 → verdictOf v ≡ given tt
-status-done = trace.Answers.status-done
+status-done = refusals.status-done
 
 -- with any other status a lent buffer, which a verdict changes by `changedIf`, is as it was
 pub status-kept : {A : Type 0} (a : Answer Unit) (old new : List A) → (statusOf a ≡ 0 → ⊥) → old ≡ changedIf a old new
-status-kept = trace.Answers.status-kept
+status-kept = refusals.status-kept
 
 -- ---- Demand 2: counting follows document 01
 

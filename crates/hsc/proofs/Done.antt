@@ -10,8 +10,8 @@ use lib.ListN.{length}
 use Rattle.snapshot.specs.Widths.{snapshotSize, eventSize}
 use Rattle.snapshot.specs.FormedBytes.{formed}
 use Rattle.snapshot.specs.EventBytes.{legalEvent}
-use Rattle.trace.specs.Refusals.{Answer, refused, given, Placed}
-use Rattle.trace.proofs.Answers.{passed, placed-test}
+use Rattle.refusal.specs.Refusals.{Answer, refused, given, Placed}
+use Rattle.refusal.proofs.Answers.{passed, placed-test}
 use Rattle.hsc.specs.Calls.{stepVerdict, readVerdict}
 
 -- a step that is not refused

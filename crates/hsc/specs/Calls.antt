@@ -11,7 +11,7 @@ use Rattle.snapshot.specs.Snapshots.{encode, decode}
 use Rattle.snapshot.specs.FormedBytes.{formed}
 use Rattle.snapshot.specs.EventBytes.{legalEvent, stepEvent}
 use Rattle.trace.specs.declared.mending.Span.{Span}
-use Rattle.trace.specs.Refusals.{Answer, refused, given, statusOf, after, changedIf}
+use Rattle.refusal.specs.Refusals.{Answer, refused, given, statusOf, after, changedIf}
 use Rattle.trace.specs.Verdicts.{replayVerdict}
 use Rattle.trace.specs.Mends.{mendAnswer}
 use Rattle.hsc.specs.Fields.{fieldsOf}

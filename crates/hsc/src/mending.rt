@@ -1,8 +1,8 @@
 // The call that mends an image.
+use refusal::Verdict;
+use refusal::status_of;
 use trace::mending::Mending;
 use trace::mending::mend;
-use trace::refusal::Verdict;
-use trace::refusal::status_of;
 ghost use mathlib.Core.Path.{_≡_};
 ghost use mathlib.Core.List.{[], _∷_};
 ghost use lib.ListN.{length};

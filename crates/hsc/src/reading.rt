@@ -1,13 +1,13 @@
 // The call that reads a snapshot.
 use crate::filling::fill;
+use refusal::Refusal;
+use refusal::Verdict;
+use refusal::status_of;
 use snapshot::SNAPSHOT_SIZE;
 use snapshot::codec::decode;
 use snapshot::form::formed;
-use trace::refusal::Refusal;
-use trace::refusal::Verdict;
-use trace::refusal::status_of;
 ghost use mathlib.Core.Path.{_≡_};
-ghost use Rattle.trace.specs.Refusals.{verdictOf};
+ghost use Rattle.refusal.specs.Refusals.{verdictOf};
 ghost use Rattle.hsc.specs.Calls.{readVerdict, readAnswer, readAfter};
 
 // What a reading comes to.

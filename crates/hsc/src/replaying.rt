@@ -1,5 +1,5 @@
 // The call that replays an image.
-use trace::refusal::status_of;
+use refusal::status_of;
 use trace::replaying::replay;
 ghost use mathlib.Core.Path.{_≡_};
 ghost use Rattle.trace.specs.Replays.{replayImage, replayLast};

@@ -1,4 +1,7 @@
 // The call that steps a snapshot by one event.
+use refusal::Refusal;
+use refusal::Verdict;
+use refusal::status_of;
 use snapshot::EVENT_SIZE;
 use snapshot::MOVING_SIZE;
 use snapshot::SNAPSHOT_SIZE;
@@ -8,9 +11,6 @@ use snapshot::split::load_moving;
 use snapshot::split::write_over;
 use trace::edition::Edition;
 use trace::events::advance;
-use trace::refusal::Refusal;
-use trace::refusal::Verdict;
-use trace::refusal::status_of;
 ghost use mathlib.Core.Path.{_≡_};
 ghost use mathlib.Core.Bool.{true};
 ghost use lib.ListN.{length};
@@ -18,7 +18,7 @@ ghost use Rattle.snapshot.specs.Widths.{snapshotSize, eventSize};
 ghost use Rattle.snapshot.specs.Snapshots.{encode, decode};
 ghost use Rattle.snapshot.specs.FormedBytes.{formed};
 ghost use Rattle.snapshot.specs.EventBytes.{stepEvent};
-ghost use Rattle.trace.specs.Refusals.{verdictOf};
+ghost use Rattle.refusal.specs.Refusals.{verdictOf};
 ghost use Rattle.hsc.specs.Calls.{eventVerdict, stepVerdict, stepAnswer, stepAfter};
 
 // Refusals 5 and 6, where every length is right.

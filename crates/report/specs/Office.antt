@@ -2,7 +2,7 @@
 use mathlib.Core.List.{List}
 use Prim.Native.Nat.{ℕ}
 use Rattle.counter.specs.declared.state.Counter.{Counter}
-use Rattle.trace.specs.Refusals.{Answer, refused, given, _andThen_}
+use Rattle.refusal.specs.Refusals.{Answer, refused, given, _andThen_}
 use Rattle.trace.specs.Header.{eventCount, snapshotCount}
 use Rattle.trace.specs.Verdicts.{replayVerdict}
 use Rattle.trace.specs.Replays.{finalState}

@@ -1,6 +1,5 @@
 -- The laws of the trace image. `Theorem` states what a user of replay and mending asks for.
 pub mod Laws
-pub mod Answers
 pub mod Headers
 pub mod Accepted
 pub mod Mendable

@@ -1,6 +1,5 @@
--- Document 01's trace image: its editions as systems, refusals, the header, replay, mending, and demand 3. Read in this order.
+-- Document 01's trace image: its editions as systems, the header, replay, mending, and demand 3. Read in this order.
 pub mod Editions
-pub mod Refusals
 pub mod Header
 pub mod Verdicts
 pub mod Replays

@@ -1,8 +1,8 @@
 // The header of an image: six numbers, each in four bytes, what they tell, and refusals 1 to 3.
 use crate::edition::Edition;
 use crate::edition::edition_at;
-use crate::refusal::Refusal;
-use crate::refusal::Verdict;
+use refusal::Refusal;
+use refusal::Verdict;
 use snapshot::EVENT_SIZE;
 use word::bytes;
 ghost use mathlib.Core.Path.{_≡_};
@@ -10,7 +10,7 @@ ghost use Prim.Native.Nat.{_+_, _*_, _^_, _≤_, _<_};
 ghost use lib.ListN.{length};
 ghost use Rattle.word.specs.LittleEndian.{numberAt};
 ghost use Rattle.snapshot.specs.Widths.{eventSize};
-ghost use Rattle.trace.specs.Refusals.{verdictOf};
+ghost use Rattle.refusal.specs.Refusals.{verdictOf};
 ghost use Rattle.trace.specs.Header.{headerSize, maxEvents, editionOf, limitsBroken, offsetsBroken, headerVerdict};
 
 // The bytes of the header.

@@ -4,6 +4,5 @@ pub mod edition;
 pub mod events;
 pub mod header;
 pub mod mending;
-pub mod refusal;
 pub mod replaying;
 mod table;

@@ -6,7 +6,7 @@ use Prim.Native.Nat.{ℕ}
 use native.Mathlib.Omega.{arith}
 use denote.Ref.{now}
 use Rattle.trace.specs.declared.mending.Span.{Span}
-use Rattle.trace.specs.Refusals.{Answer, given, refusal, statusOf, Placed, after}
+use Rattle.refusal.specs.Refusals.{Answer, given, refusal, statusOf, Placed, after}
 use Rattle.trace.specs.Mends.{mendOf, mendAnswer}
 use Rattle.trace.proofs.Bounds.{mend-placed, mend-numbers}
 use Rattle.hsc.proofs.mending.hsc_mend.Statement.{statement}

@@ -7,8 +7,8 @@ use denote.Ref.{now}
 use lib.ListN.{length}
 use Rattle.snapshot.specs.Widths.{snapshotSize}
 use Rattle.snapshot.specs.Snapshots.{decode}
-use Rattle.trace.specs.Refusals.{Answer, given, verdictOf, statusOf, Placed, changedIf}
-use Rattle.trace.proofs.Answers.{status-done, status-kept}
+use Rattle.refusal.specs.Refusals.{Answer, given, verdictOf, statusOf, Placed, changedIf}
+use Rattle.refusal.proofs.Answers.{status-done, status-kept}
 use Rattle.hsc.specs.Fields.{fieldsOf}
 use Rattle.hsc.specs.Calls.{readVerdict}
 use Rattle.hsc.proofs.Done.{read-passed, read-placed}

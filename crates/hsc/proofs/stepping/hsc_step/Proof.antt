@@ -5,8 +5,8 @@ use mathlib.Core.List.{List}
 use denote.Ref.{now}
 use Rattle.snapshot.specs.Snapshots.{encode, decode}
 use Rattle.snapshot.specs.EventBytes.{stepEvent}
-use Rattle.trace.specs.Refusals.{Answer, given, verdictOf, statusOf, Placed, changedIf}
-use Rattle.trace.proofs.Answers.{status-done, status-kept}
+use Rattle.refusal.specs.Refusals.{Answer, given, verdictOf, statusOf, Placed, changedIf}
+use Rattle.refusal.proofs.Answers.{status-done, status-kept}
 use Rattle.hsc.specs.Calls.{stepVerdict}
 use Rattle.hsc.proofs.Done.{step-passed, step-placed}
 use Rattle.hsc.proofs.stepping.hsc_step.Statement.{statement}

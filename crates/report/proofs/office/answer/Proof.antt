@@ -11,11 +11,11 @@ use Rattle.word.specs.Part.{Bytes, part}
 use Rattle.word.specs.LittleEndian.{numberAt}
 use Rattle.snapshot.specs.Widths.{snapshotSize}
 use Rattle.snapshot.specs.Snapshots.{decode}
-use Rattle.trace.specs.Refusals.{Answer, given, refusal, _andThen_}
+use Rattle.refusal.specs.Refusals.{Answer, given, refusal, _andThen_}
 use Rattle.trace.specs.Header.{headerSize, eventCount, snapshotCount}
 use Rattle.trace.specs.Verdicts.{replayVerdict, ValidTrace}
 use Rattle.trace.specs.Replays.{finalState}
-use Rattle.trace.proofs.Answers.{refused-then, accepted-answer, accepted-then}
+use Rattle.refusal.proofs.Answers.{refused-then, accepted-answer, accepted-then}
 use Rattle.trace.proofs.Accepted.{trace-passed}
 use Rattle.trace.proofs.Theorem.{replay-length, replay-number, final-decoded, final-length}
 use Rattle.counter.specs.declared.state.Counter.{Counter}

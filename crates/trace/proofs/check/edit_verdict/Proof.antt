@@ -7,10 +7,10 @@ use native.Mathlib.Omega.{arith}
 use Rattle.replay.proofs.Image.{first-within}
 use Rattle.trace.specs.declared.edition.Edition.{Edition}
 use Rattle.trace.specs.Editions.{system}
-use Rattle.trace.specs.Refusals.{verdictOf}
+use Rattle.refusal.specs.Refusals.{verdictOf}
 use Rattle.trace.specs.Header.{eventCount, systemOf, shapeOf}
 use Rattle.trace.specs.Mends.{patchVerdict, startVerdict, editVerdict}
-use Rattle.trace.proofs.Answers.{refused-first, accepted-answer, accepted-then}
+use Rattle.refusal.proofs.Answers.{refused-first, accepted-answer, accepted-then}
 use Rattle.trace.proofs.Accepted.{Passed, image-passed}
 use Rattle.trace.proofs.Mendable.{patch-passed}
 use Rattle.trace.proofs.check.edit_verdict.Statement.{statement}

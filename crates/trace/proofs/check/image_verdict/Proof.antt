@@ -1,10 +1,10 @@
 -- `trace::check::image_verdict` meets its contract: the first of the three verdicts that refuses is the answer.
 use borrow.Author.Needs.{needs}
 use mathlib.Core.Path.{_≡_}
-use Rattle.trace.specs.Refusals.{given}
+use Rattle.refusal.specs.Refusals.{given}
 use Rattle.trace.specs.Header.{headerVerdict}
 use Rattle.trace.specs.Verdicts.{imageVerdict}
-use Rattle.trace.proofs.Answers.{refused-first, accepted-answer, accepted-then}
+use Rattle.refusal.proofs.Answers.{refused-first, accepted-answer, accepted-then}
 use Rattle.trace.proofs.check.image_verdict.Statement.{statement}
 use Rattle.trace.proofs.check.image_verdict.Tie as tie
 

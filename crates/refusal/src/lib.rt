@@ -1,6 +1,6 @@
 // The refusals of document 01's table, and the verdict on what was lent.
 ghost use mathlib.Core.Path.{_≡_};
-ghost use Rattle.trace.specs.Refusals.{numberOf, placeOf, verdictOf, statusOf, Placed};
+ghost use Rattle.refusal.specs.Refusals.{numberOf, placeOf, verdictOf, statusOf, Placed};
 
 // Each refusal in the table's order; a place stands with those that have one.
 pub enum Refusal {

@@ -1,13 +1,13 @@
--- `trace::refusal::status_of` meets its contract: number and place fit their halves.
+-- `refusal::status_of` meets its contract: number and place fit their halves.
 use borrow.Author.Needs.{needs}
 use mathlib.Core.Path.{_≡_, sym, ap, subst, _∙_}
 use Prim.Native.Nat.{_+_, _*_, _^_, _<_}
 use native.Mathlib.Omega.{arith}
-use Rattle.trace.specs.declared.refusal.Verdict.{Verdict}
-use Rattle.trace.specs.Refusals.{placeOf, verdictOf, statusOf, Placed}
-use Rattle.trace.proofs.Answers.{number-range}
-use Rattle.trace.proofs.refusal.status_of.Statement.{statement}
-use Rattle.trace.proofs.refusal.status_of.Tie as tie
+use Rattle.refusal.specs.declared.Verdict.{Verdict}
+use Rattle.refusal.specs.Refusals.{placeOf, verdictOf, statusOf, Placed}
+use Rattle.refusal.proofs.Answers.{number-range}
+use Rattle.refusal.proofs.status_of.Statement.{statement}
+use Rattle.refusal.proofs.status_of.Tie as tie
 
 -- the refusal that the match found
 module _ (c : tie.After-known-told) where

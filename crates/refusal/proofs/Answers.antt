@@ -5,11 +5,11 @@ use mathlib.Core.Bool.{Bool, true, false, cond, not, _||_, false≢true}
 use mathlib.Core.List.{List}
 use Prim.Native.Nat.{ℕ, _≤_}
 use native.Mathlib.Omega.{arith}
-use Rattle.trace.specs.declared.refusal.Refusal.{Refusal}
-use Rattle.trace.specs.declared.refusal.Refusal.the-variants.{Short, Limits, Offsets, Length, Event, Snapshot, Patch, PatchEvent, Size}
-use Rattle.trace.specs.declared.refusal.Verdict.{Verdict}
-use Rattle.trace.specs.declared.refusal.Verdict.the-variants.{Refused, Accepted}
-use Rattle.trace.specs.Refusals.{Answer, refused, given, numberOf, refusal, verdictOf, statusOf, Placed, _andThen_, changedIf}
+use Rattle.refusal.specs.declared.Refusal.{Refusal}
+use Rattle.refusal.specs.declared.Refusal.the-variants.{Short, Limits, Offsets, Length, Event, Snapshot, Patch, PatchEvent, Size}
+use Rattle.refusal.specs.declared.Verdict.{Verdict}
+use Rattle.refusal.specs.declared.Verdict.the-variants.{Refused, Accepted}
+use Rattle.refusal.specs.Refusals.{Answer, refused, given, numberOf, refusal, verdictOf, statusOf, Placed, _andThen_, changedIf}
 
 -- ---- tests in a row
 
