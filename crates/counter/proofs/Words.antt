@@ -17,7 +17,7 @@ use Rattle.counter.specs.declared.state.Count.{Count}
 use Rattle.counter.specs.declared.state.Count.the-variants.{None, Up, Down}
 use Rattle.counter.specs.Parts.{lowPreset, highPreset, withStaged, withAcc, withFlags, withLevels}
 use Rattle.counter.specs.Interrupts.{outputMask, presetWord, causeWord, enabled, interrupt, withOutputs, raise}
-use Rattle.counter.specs.Sample.{countedBy, resets, mayCount, count, sampled, after, sample}
+use Rattle.counter.specs.Sample.{countedBy, resets, mayCount, count, sampled, applied, sample}
 use Rattle.counter.specs.Events.{programWord, outputWrite}
 use Rattle.counter.proofs.Samples.{causeWord-lt, programWord-lt}
 
@@ -102,7 +102,7 @@ module _ (s : Settings) where
   pub sample-staged : (new : ℕ) (c : Counter) → sample new (withStaged s c) ≡ withStaged s (sample new c)
   unfolding sample
   sample-staged new c =
-      ap (λ (r : Sampled). after r (withLevels new (withStaged s c))) (sampled-staged new c)
+      ap (λ (r : Sampled). applied r (withLevels new (withStaged s c))) (sampled-staged new c)
       ∙ raise-staged (sampled new c .cause) (withFlags (sampled new c .flags) (withAcc (sampled new c .acc) (withLevels new c)))
 
   pub output-staged : (v : ℤ) (c : Counter) → outputWrite v (withStaged s c) ≡ withStaged s (outputWrite v c)

@@ -12,7 +12,7 @@ use Rattle.counter.specs.Desk.{deskOf, first, second}
 use Rattle.counter.specs.Parts.{UIE, UIL, FE, LPI, HPI, OF, MD, LOADED, lowPreset, highPreset, underflow, overflow, withActive, withAcc}
 use Rattle.counter.specs.Parts.{withOut, withDesk, flag, on, fresh}
 use Rattle.counter.specs.Interrupts.{routineDone, raise}
-use Rattle.counter.specs.Sample.{countedBy, after}
+use Rattle.counter.specs.Sample.{countedBy, applied}
 
 -- ---- what the rows start from
 
@@ -42,7 +42,7 @@ crowded = withDesk (deskOf 2 (1 ∷ 4 ∷ []) 2) (on FE (on UIE (on HPI fresh)))
 
 -- the counter after one count
 abbrev pub afterCount : Count → Counter → Counter
-afterCount way c = after (countedBy way c) c
+afterCount way c = applied (countedBy way c) c
 
 -- one count from c leaves ACC and raises the cause
 abbrev pub gives : Counter → Count → ℤ → ℕ → Bool

@@ -119,9 +119,9 @@ unfoldable pub sampled : ℕ → Counter → Sampled
 sampled new c = cond (resets new c) (sampledAs (pos 0) (c .flags) 0) (countedBy (count new c) c)
 
 -- ACC and the flags are stored, then the cause is raised
-abbrev pub after : Sampled → Counter → Counter
-after r c = raise (r .cause) (withFlags (r .flags) (withAcc (r .acc) c))
+abbrev pub applied : Sampled → Counter → Counter
+applied r c = raise (r .cause) (withFlags (r .flags) (withAcc (r .acc) c))
 
 -- new levels are always stored
 unfoldable pub sample : ℕ → Counter → Counter
-sample new c = after (sampled new c) (withLevels new c)
+sample new c = applied (sampled new c) (withLevels new c)

@@ -1,6 +1,7 @@
 // Which events are legal, by kind, sub and value.
 ghost use mathlib.Core.Path.{_≡_};
-ghost use Rattle.counter.specs.Events.{isZero, isBit, isLevels, isWord, isShort, legalStaged, legalDevice, takesBit, takesZero, legalFlag, legal, isSample};
+ghost use Rattle.counter.specs.Events.{isZero, isBit, isLevels, isWord, isShort, isSample};
+ghost use Rattle.counter.specs.Events.{legalStaged, legalDevice, takesBit, takesZero, legalFlag, legal};
 
 pub fn is_zero(v: i32) -> bool
     ensures { λ r. ⌜ r ≡ isZero v ⌝ }
@@ -100,5 +101,5 @@ pub fn legal(kind: u8, sub: u8, v: i32) -> bool
 pub fn is_sample(kind: u8, sub: u8, v: i32) -> bool
     ensures { λ r. ⌜ r ≡ isSample kind sub v ⌝ }
 {
-    (kind == 1) & (sub == 0) & is_levels(v)
+    (kind == 1) & ((sub == 0) & is_levels(v))
 }

@@ -9,11 +9,8 @@ use super::state::Counter;
 use super::state::Sampled;
 use word::bits;
 ghost use mathlib.Core.Path.{_≡_};
-ghost use mathlib.Core.Bool.{not, _&&_};
 ghost use lib.IntN.{pos};
-ghost use Rattle.word.specs.Masks.{bit};
-ghost use Rattle.counter.specs.Parts.{CE};
-ghost use Rattle.counter.specs.Sample.{rises, hasReset, sampledAs, unmoved, countedUp, countedDown, countedBy, sampled, sample};
+ghost use Rattle.counter.specs.Sample.{sampledAs, unmoved, countedUp, countedDown, countedBy, resets, mayCount, count, sampled, sample};
 
 fn unmoved(c: Counter) -> Sampled
     ensures { λ r. ⌜ r ≡ unmoved c ⌝ }
@@ -60,18 +57,36 @@ fn counted_by(way: Count, c: Counter) -> Sampled
     }
 }
 
-// Whether a loaded counter resets: input 2 rises in a mode that has a reset.
-fn resets(m: u8, old: u8, new: u8) -> bool
-    ensures { λ r. ⌜ r ≡ (hasReset m && rises old new 2) ⌝ }
+// Whether the sample resets: input 2 rises in a mode that has a reset.
+fn resets(c: Counter, new: u8) -> bool
+    ensures { λ r. ⌜ r ≡ resets new c ⌝ }
 {
-    inputs::has_reset(m) & inputs::rises(old, new, 2)
+    bits::has(c.flags, flag::LOADED)
+        & (inputs::has_reset(rules::mode(c)) & inputs::rises(c.levels, new, 2))
 }
 
-// Whether a loaded counter may count: CE is 1, and no hold is on.
-fn may_count(m: u8, flags: u32, new: u8) -> bool
-    ensures { λ r. ⌜ r ≡ (bit flags CE && not (hasReset m && bit new 3)) ⌝ }
+// Whether the sample may count: CE is 1, and no hold is on.
+fn may_count(c: Counter, new: u8) -> bool
+    ensures { λ r. ⌜ r ≡ mayCount new c ⌝ }
 {
-    bits::has(flags, flag::CE) & !(inputs::has_reset(m) & inputs::is_on(new, 3))
+    bits::has(c.flags, flag::LOADED)
+        & (bits::has(c.flags, flag::CE)
+            & !(inputs::has_reset(rules::mode(c)) & inputs::is_on(new, 3)))
+}
+
+// The count that the sample makes.
+fn count(c: Counter, new: u8) -> Count
+    ensures { λ r. ⌜ r ≡ count new c ⌝ }
+{
+    if resets(c, new) {
+        Count::None
+    } else {
+        if may_count(c, new) {
+            inputs::direction(rules::mode(c), c.levels, new)
+        } else {
+            Count::None
+        }
+    }
 }
 
 fn reset(flags: u32) -> Sampled
@@ -88,19 +103,10 @@ fn reset(flags: u32) -> Sampled
 pub fn sampled(c: Counter, new: u8) -> Sampled
     ensures { λ r. ⌜ r ≡ sampled new c ⌝ }
 {
-    let m = rules::mode(c);
-    if bits::has(c.flags, flag::LOADED) {
-        if resets(m, c.levels, new) {
-            reset(c.flags)
-        } else {
-            if may_count(m, c.flags, new) {
-                counted_by(inputs::direction(m, c.levels, new), c)
-            } else {
-                unmoved(c)
-            }
-        }
+    if resets(c, new) {
+        reset(c.flags)
     } else {
-        unmoved(c)
+        counted_by(count(c, new), c)
     }
 }
 

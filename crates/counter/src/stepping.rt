@@ -16,7 +16,8 @@ ghost use mathlib.Core.Bool.{true};
 ghost use Prim.Native.Nat.{_<_};
 ghost use Rattle.counter.specs.Parts.{withAcc, on, SP, FE};
 ghost use Rattle.counter.specs.Loading.{load};
-ghost use Rattle.counter.specs.Events.{legal, levelsOf, wordOf, shortOf, staged, stagedWrite, device, setTo, deviceWrite, spRises, flagWrite, emptied, autoStart, enterRun, outputWrite, control, step, stepControl};
+ghost use Rattle.counter.specs.Events.{legal, levelsOf, wordOf, shortOf, staged, stagedWrite, device, setTo, deviceWrite, spRises};
+ghost use Rattle.counter.specs.Events.{flagWrite, emptied, autoStart, enterRun, outputWrite, control, step, stepControl};
 
 // The levels that a sample's value gives.
 pub fn levels_of(v: i32) -> u8

@@ -10,7 +10,7 @@ use Rattle.counter.specs.declared.state.Counter.{Counter}
 use Rattle.counter.specs.declared.state.Sampled.{Sampled}
 use Rattle.counter.specs.Parts.{withAcc, withFlags, withLevels}
 use Rattle.counter.specs.Interrupts.{raise}
-use Rattle.counter.specs.Sample.{sampled, after, sample}
+use Rattle.counter.specs.Sample.{sampled, applied, sample}
 use Rattle.counter.specs.Events.{isSample}
 use Rattle.counter.proofs.Raising.{raise-none}
 use Rattle.snapshot.specs.declared.event.Event.{Event}
@@ -28,7 +28,7 @@ stored r new c = withFlags (r .flags) (withAcc (r .acc) (withLevels new c))
 module _ (new : ℕ) (c : Counter) (r : Sampled) (e : r ≡ sampled new c) where
   pub sample-raised : raise (r .cause) (stored r new c) ≡ sample new c
   unfolding sample
-  sample-raised = ap (λ (q : Sampled). after q (withLevels new c)) e
+  sample-raised = ap (λ (q : Sampled). applied q (withLevels new c)) e
 
   pub sample-quiet : r .cause ≡ 0 → stored r new c ≡ sample new c
   sample-quiet z = sym (ap (λ (n : ℕ). raise n (stored r new c)) z ∙ raise-none (stored r new c)) ∙ sample-raised

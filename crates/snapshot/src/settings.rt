@@ -43,7 +43,8 @@ fn write_modes(s: &mut [u8], at: usize, pfn: i16, mode: i16)
 // Writes HIP, LOP, OVF and UNF.
 fn write_limits(s: &mut [u8], at: usize, hip: i32, lop: i32, ovf: i32, unf: i32)
     requires { ⌜ at + 16 ≤ length (now s) ⌝ }
-    ensures { λ _. ⌜ now (s .exit) ≡ put (now (s .entry)) at (pack (4 ∷ 4 ∷ 4 ∷ 4 ∷ []) (unsigned w32 hip ∷ unsigned w32 lop ∷ unsigned w32 ovf ∷ unsigned w32 unf ∷ [])) ⌝ }
+    ensures { λ _. ⌜ now (s .exit)
+        ≡ put (now (s .entry)) at (pack (4 ∷ 4 ∷ 4 ∷ 4 ∷ []) (unsigned w32 hip ∷ unsigned w32 lop ∷ unsigned w32 ovf ∷ unsigned w32 unf ∷ [])) ⌝ }
 {
     bytes::write_i32(s, at, hip);
     bytes::write_i32(s, at + 4, lop);

@@ -118,7 +118,8 @@ pub fn write_snapshot(image: &mut [u8], at: usize, s: &[u8], moving: &[u8])
 // whole for every sample.
 fn raise_over(s: &mut [u8], moving: &mut [u8], acc: i32, flags: u32, levels: u8, cause: u8)
     requires { ⌜ (length (now s) ≡ snapshotSize) × (length (now moving) ≡ movingSize) ⌝ }
-    ensures { λ _. ⌜ HoldsIfGood (raise cause (withFlags flags (withAcc acc (withLevels levels (decode (now (s .entry))))))) (now (s .exit)) (now (moving .exit)) ⌝ }
+    ensures { λ _. ⌜ HoldsIfGood (raise cause (withFlags flags (withAcc acc (withLevels levels (decode (now (s .entry)))))))
+        (now (s .exit)) (now (moving .exit)) ⌝ }
 {
     let mut c = codec::decode(s, 0);
     c.acc = acc;
@@ -163,7 +164,8 @@ fn control_over(s: &mut [u8], moving: &mut [u8], kind: u8, sub: u8, v: i32)
 // Takes the event from byte at.
 pub fn step_over(s: &mut [u8], moving: &mut [u8], events: &[u8], at: usize)
     requires { ⌜ (length (now s) ≡ snapshotSize) × (length (now moving) ≡ movingSize) × (at + eventSize ≤ length (now events)) ⌝ }
-    ensures { λ _. ⌜ HoldsIfGood (stepEvent (part (now (events .entry)) at eventSize) (splitState (now (s .entry)) (now (moving .entry)))) (now (s .exit)) (now (moving .exit)) ⌝ }
+    ensures { λ _. ⌜ HoldsIfGood (stepEvent (part (now (events .entry)) at eventSize) (splitState (now (s .entry)) (now (moving .entry))))
+        (now (s .exit)) (now (moving .exit)) ⌝ }
 {
     let e = read_event(events, at);
     if legality::is_sample(e.kind, e.sub, e.value) {
