@@ -37,15 +37,15 @@ use Rattle.replay.specs.Events.{firstIllegal}
 use Rattle.replay.specs.Replay as any
 use Rattle.replay.specs.Mend.{mend}
 use Rattle.replay.specs.Claim.{Mended}
-use Rattle.trace.specs.declared.edition.Edition.{Edition}
-use Rattle.trace.specs.declared.mending.Span.{Span}
-use Rattle.trace.specs.declared.mending.Mending.{Mending}
-use Rattle.trace.specs.Editions.{system}
-use Rattle.trace.specs.Header.{shapeOf, systemOf}
-use Rattle.trace.specs.Verdicts.{replayVerdict, ValidTrace}
-use Rattle.trace.specs.Replays.{TrueTable, finalState, replayImage, replayLast}
-use Rattle.trace.specs.Mends.{mendAnswer, mendImage, mendOf}
-use Rattle.trace.specs.Demand3.{Edit, Demand3}
+use Rattle.image.specs.declared.edition.Edition.{Edition}
+use Rattle.image_mend.specs.declared.Span.{Span}
+use Rattle.image_mend.specs.declared.Mending.{Mending}
+use Rattle.image.specs.Editions.{system}
+use Rattle.image.specs.Header.{shapeOf, systemOf}
+use Rattle.image.specs.Verdicts.{replayVerdict, ValidTrace}
+use Rattle.image_replay.specs.Replays.{TrueTable, finalState, replayImage, replayLast}
+use Rattle.image_mend.specs.Mends.{mendAnswer, mendImage, mendOf}
+use Rattle.image_mend.specs.Demand3.{Edit, Demand3}
 use Rattle.hsc.specs.Version.{version}
 use Rattle.hsc.specs.Calls.{checkAnswer, stepAnswer, stepAfter, readAnswer, readAfter, replayStatus, mendStatus, mendSpan}
 use Rattle.report.specs.Office.{officeLine}
@@ -54,7 +54,9 @@ use Rattle.refusal.proofs.Answers as refusals
 use Rattle.counter.proofs as counter
 use Rattle.snapshot.proofs as snapshot
 use Rattle.replay.proofs as replay
-use Rattle.trace.proofs as trace
+use Rattle.image.proofs as images
+use Rattle.image_replay.proofs as replaying
+use Rattle.image_mend.proofs as mending
 use Rattle.hsc.proofs as hsc
 use Rattle.report.proofs as report
 
@@ -109,8 +111,8 @@ pub hsc-mend : (κs : _) (image image′ patch patch′ span span′ : RefT (Lis
 hsc-mend κs image image′ patch patch′ span span′ first first′ r = (refl, refl)
 
 -- an image is not refused exactly where its header is right, its length is that of its shape, its events are legal and replay may start
-pub verdict-valid : (image : List ℕ) → Bytes image → ValidTrace image ↔ (trace.Headers.Headed image × any.Replayable (systemOf image) (shapeOf image) image)
-verdict-valid = trace.Theorem.verdict-valid
+pub verdict-valid : (image : List ℕ) → Bytes image → ValidTrace image ↔ (images.Headers.Headed image × any.Replayable (systemOf image) (shapeOf image) image)
+verdict-valid = images.Accepted.verdict-valid
 
 -- the place of refusals 5 and 8: that event is illegal
 pub scan-illegal : {width : ℕ} (S : System width) (bytes : List ℕ) (at i n : ℕ)
@@ -129,10 +131,10 @@ number-range = refusals.number-range
 
 -- every place of a refusal by replay or mending fits its half of the status
 pub replay-placed : (image : List ℕ) → Placed (replayVerdict image)
-replay-placed = trace.Bounds.replay-placed
+replay-placed = images.Bounds.replay-placed
 
 pub mend-placed : (image : List ℕ) (f : ℕ) (patch : List ℕ) → Placed (mendAnswer image f patch)
-mend-placed = trace.Bounds.mend-placed
+mend-placed = mending.Bounds.mend-placed
 
 -- so the low half of a status is the refusal's number, and the high half its place
 pub status-number : (number place : ℕ) → number < 2 ^ 32 → statusOf {A = Unit} (refused number place) % 2 ^ 32 ≡ number
@@ -292,12 +294,12 @@ step-over κs s s′ moving moving′ events events′ at at′ = (refl, refl)
 -- ---- Demand 3: a mended night is the replayed night
 
 -- Mending is proved to meet its contract, whose third part is demand 3: any edit is answered and left as it says.
-pub mend-met : {M : Type 1} → trace.mending.mend.Statement.statement M
-mend-met = trace.mending.mend.Met.met
+pub mend-met : {M : Type 1} → mending.mend.Statement.statement M
+mend-met = mending.mend.Met.met
 
 pub mend-contract : (κs : _) (image image′ patch patch′ : RefT (List ℕ)) (first first′ : ℕ) (r : Mending)
-    → (trace.mending.mend.Reads.Asked κs (image, (first, (patch, tt))) ≡ Unit)
-    × (trace.mending.mend.Reads.Learnt κs (image, (first, (patch, tt))) r (image′, (first′, (patch′, tt)))
+    → (mending.mend.Reads.Asked κs (image, (first, (patch, tt))) ≡ Unit)
+    × (mending.mend.Reads.Learnt κs (image, (first, (patch, tt))) r (image′, (first′, (patch′, tt)))
     ≡ ((mendOf r ≡ mendAnswer (now image) first (now patch))
     × ((now image′ ≡ mendImage (now image) first (now patch))
     × ((n : ℕ) → Edit (now image) first n (now patch) → Demand3 (now image) first n (now patch) (mendOf r) (now image′)))))
@@ -307,32 +309,32 @@ mend-contract κs image image′ patch patch′ first first′ r = (refl, refl)
 pub demand-3 : (image : List ℕ) (f n : ℕ) (patch : List ℕ) → Edit image f n patch → Bytes image → Bytes patch
     → (answer : Answer Span) (after : List ℕ) → answer ≡ mendAnswer image f patch → after ≡ mendImage image f patch
     → Demand3 image f n patch answer after
-demand-3 = trace.Theorem.demand-3
+demand-3 = mending.Theorem.demand-3
 
 -- replay of a valid image leaves a valid image with a true table
 pub replay-valid : (image : List ℕ) → Bytes image → ValidTrace image → ValidTrace (replayImage image)
-replay-valid = trace.Theorem.replay-valid
+replay-valid = replaying.Theorem.replay-valid
 
 pub replay-true : (image : List ℕ) → Bytes image → ValidTrace image → TrueTable (replayImage image)
-replay-true = trace.Theorem.replay-true
+replay-true = replaying.Theorem.replay-true
 
 -- and the final state in the bytes lent for it
 pub final-decoded : (image : List ℕ) → Bytes image → ValidTrace image → (last : List ℕ)
     → systemOf image .decode (part (replayLast image last) 0 (systemOf image .size)) ≡ finalState image
-final-decoded = trace.Theorem.final-decoded
+final-decoded = replaying.Theorem.final-decoded
 
 -- mending a valid image with a true table leaves one, so a second edit is covered
 pub mend-valid : (image : List ℕ) (f n : ℕ) (patch : List ℕ) → Edit image f n patch → Bytes image → Bytes patch
     → ValidTrace (mendImage image f patch)
-mend-valid = trace.Theorem.mend-valid
+mend-valid = mending.Theorem.mend-valid
 
 pub mend-true : (image : List ℕ) (f n : ℕ) (patch : List ℕ) → Edit image f n patch → Bytes image → Bytes patch
     → TrueTable (mendImage image f patch)
-mend-true = trace.Theorem.mend-true
+mend-true = mending.Theorem.mend-true
 
 -- every edition of the image is a system that keeps the laws
 pub laws : (ed : Edition) → Laws (system ed)
-laws = trace.Laws.laws
+laws = images.Laws.laws
 
 -- ---- demand 3 over any such system
 

@@ -43,7 +43,7 @@ module _ (s e : List ℕ) where
   pub step-placed : Placed (stepVerdict s e)
   unfolding stepVerdict
   step-placed =
-      placed-test (not long) 9 _ (placed-test (not whole) 9 _ (placed-test (not (legalEvent e)) 5 _ (placed-test (not (formed s)) 6 (given tt) tt)))
+      placed-test (not long) 9 _ λ _. placed-test (not whole) 9 _ λ _. placed-test (not (legalEvent e)) 5 _ λ _. placed-test (not (formed s)) 6 (given tt) λ _. tt
 
 pub read-passed : (s : List ℕ) → readVerdict s ≡ given tt → length s ≡ snapshotSize
 unfolding readVerdict
@@ -53,4 +53,4 @@ read-passed s v =
 
 pub read-placed : (s : List ℕ) → Placed (readVerdict s)
 unfolding readVerdict
-read-placed s = placed-test (not (eqb (length s) snapshotSize)) 9 _ (placed-test (not (formed s)) 6 (given tt) tt)
+read-placed s = placed-test (not (eqb (length s) snapshotSize)) 9 _ λ _. placed-test (not (formed s)) 6 (given tt) λ _. tt

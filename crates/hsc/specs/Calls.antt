@@ -10,10 +10,10 @@ use Rattle.snapshot.specs.Widths.{snapshotSize, eventSize}
 use Rattle.snapshot.specs.Snapshots.{encode, decode}
 use Rattle.snapshot.specs.FormedBytes.{formed}
 use Rattle.snapshot.specs.EventBytes.{legalEvent, stepEvent}
-use Rattle.trace.specs.declared.mending.Span.{Span}
+use Rattle.image_mend.specs.declared.Span.{Span}
 use Rattle.refusal.specs.Refusals.{Answer, refused, given, statusOf, after, changedIf}
-use Rattle.trace.specs.Verdicts.{replayVerdict}
-use Rattle.trace.specs.Mends.{mendAnswer}
+use Rattle.image.specs.Verdicts.{replayVerdict}
+use Rattle.image_mend.specs.Mends.{mendAnswer}
 use Rattle.hsc.specs.Fields.{fieldsOf}
 
 -- ---- event check: 9, else 1 for yes or 0 for no

@@ -1,12 +1,12 @@
 // The call that mends an image.
+use image_mend::Mending;
+use image_mend::mend;
 use refusal::Verdict;
 use refusal::status_of;
-use trace::mending::Mending;
-use trace::mending::mend;
 ghost use mathlib.Core.Path.{_≡_};
 ghost use mathlib.Core.List.{[], _∷_};
 ghost use lib.ListN.{length};
-ghost use Rattle.trace.specs.Mends.{mendImage};
+ghost use Rattle.image_mend.specs.Mends.{mendImage};
 ghost use Rattle.hsc.specs.Calls.{mendStatus, mendSpan};
 
 // Two numbers over two.

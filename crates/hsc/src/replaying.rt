@@ -1,8 +1,8 @@
 // The call that replays an image.
+use image_replay::replay;
 use refusal::status_of;
-use trace::replaying::replay;
 ghost use mathlib.Core.Path.{_≡_};
-ghost use Rattle.trace.specs.Replays.{replayImage, replayLast};
+ghost use Rattle.image_replay.specs.Replays.{replayImage, replayLast};
 ghost use Rattle.hsc.specs.Calls.{replayStatus};
 
 // Writes every snapshot anew, and the final state's into last. A refusal leaves both as they were.

@@ -1,4 +1,6 @@
 // The call that steps a snapshot by one event.
+use image::edition::Edition;
+use image::events::advance;
 use refusal::Refusal;
 use refusal::Verdict;
 use refusal::status_of;
@@ -9,8 +11,6 @@ use snapshot::event::legal_event;
 use snapshot::form::formed;
 use snapshot::split::load_moving;
 use snapshot::split::write_over;
-use trace::edition::Edition;
-use trace::events::advance;
 ghost use mathlib.Core.Path.{_≡_};
 ghost use mathlib.Core.Bool.{true};
 ghost use lib.ListN.{length};

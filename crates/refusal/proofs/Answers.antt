@@ -92,7 +92,13 @@ pub status-kept : {A : Type 0} (a : Answer Unit) (old new : List A) → (statusO
 status-kept (refused n p) old new h = refl
 status-kept (given tt) old new h = absurd (h refl)
 
--- a test that refuses at place 0 leaves a place that fits
-pub placed-test : (t : Bool) (n : ℕ) (rest : Answer Unit) → Placed rest → Placed (cond t (refused n 0) rest)
+-- ---- a place that fits 32 bits
+
+-- of a test that refuses at place 0, and of what comes where it is passed
+pub placed-test : {A : Type 0} (t : Bool) (n : ℕ) (rest : Answer A) → (t ≡ false → Placed rest) → Placed (cond t (refused n 0) rest)
 placed-test true n rest h = omega arith
-placed-test false n rest h = h
+placed-test false n rest h = h refl
+
+pub placed-then : {A : Type 0} (a : Answer Unit) (b : Answer A) → Placed a → (a ≡ given tt → Placed b) → Placed (a andThen b)
+placed-then (refused n p) b h k = h
+placed-then (given tt) b h k = k refl

@@ -3,9 +3,9 @@ use mathlib.Core.List.{List}
 use Prim.Native.Nat.{ℕ}
 use Rattle.counter.specs.declared.state.Counter.{Counter}
 use Rattle.refusal.specs.Refusals.{Answer, refused, given, _andThen_}
-use Rattle.trace.specs.Header.{eventCount, snapshotCount}
-use Rattle.trace.specs.Verdicts.{replayVerdict}
-use Rattle.trace.specs.Replays.{finalState}
+use Rattle.image.specs.Header.{eventCount, snapshotCount}
+use Rattle.image.specs.Verdicts.{replayVerdict}
+use Rattle.image_replay.specs.Replays.{finalState}
 use Rattle.report.specs.Line.{replayLine, refusalLine}
 
 -- a refusal's line, or that of the counts and the final state

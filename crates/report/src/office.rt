@@ -1,15 +1,15 @@
 // The office program: an image from standard input, and its line.
 use super::line::refusal_line;
 use super::line::replay_line;
+use image::edition::MAX_SIZE;
+use image::header;
+use image_replay::replay;
 use libc::STDIN_FILENO;
 use libc::STDOUT_FILENO;
 use refusal::Verdict;
 use refusal::number_of;
 use refusal::place_of;
 use snapshot::codec::decode;
-use trace::edition::MAX_SIZE;
-use trace::header;
-use trace::replaying::replay;
 ghost use mathlib.Core.Path.{_≡_};
 ghost use Prim.Native.Nat.{_≤_};
 ghost use lib.ListN.{length, take};
@@ -17,7 +17,7 @@ ghost use Rattle.word.specs.Part.{part};
 ghost use Rattle.snapshot.specs.Widths.{snapshotSize};
 ghost use Rattle.snapshot.specs.Snapshots.{decode};
 ghost use Rattle.refusal.specs.Refusals.{given};
-ghost use Rattle.trace.specs.Header.{headerSize, eventCount, snapshotCount};
+ghost use Rattle.image.specs.Header.{headerSize, eventCount, snapshotCount};
 ghost use Rattle.report.specs.Office.{lineOf, officeLine};
 
 // The line of an image that was replayed, by its header and the final state's snapshot; answers the line's length.

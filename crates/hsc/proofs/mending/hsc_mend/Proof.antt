@@ -5,10 +5,10 @@ use mathlib.Core.List.{List, [], _∷_}
 use Prim.Native.Nat.{ℕ}
 use native.Mathlib.Omega.{arith}
 use denote.Ref.{now}
-use Rattle.trace.specs.declared.mending.Span.{Span}
+use Rattle.image_mend.specs.declared.Span.{Span}
 use Rattle.refusal.specs.Refusals.{Answer, given, refusal, statusOf, Placed, after}
-use Rattle.trace.specs.Mends.{mendOf, mendAnswer}
-use Rattle.trace.proofs.Bounds.{mend-placed, mend-numbers}
+use Rattle.image_mend.specs.Mends.{mendOf, mendAnswer}
+use Rattle.image_mend.proofs.Bounds.{mend-placed, mend-numbers}
 use Rattle.hsc.proofs.mending.hsc_mend.Statement.{statement}
 use Rattle.hsc.proofs.mending.hsc_mend.Tie as tie
 

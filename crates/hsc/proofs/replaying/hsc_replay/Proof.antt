@@ -2,7 +2,7 @@
 use borrow.Author.Needs.{needs}
 use mathlib.Core.Path.{sym, ap, subst, _∙_}
 use Rattle.refusal.specs.Refusals.{Answer, statusOf, Placed}
-use Rattle.trace.proofs.Bounds.{replay-placed}
+use Rattle.image.proofs.Bounds.{replay-placed}
 use Rattle.hsc.proofs.replaying.hsc_replay.Statement.{statement}
 use Rattle.hsc.proofs.replaying.hsc_replay.Tie as tie
 

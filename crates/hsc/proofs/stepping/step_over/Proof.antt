@@ -17,7 +17,7 @@ use Rattle.snapshot.specs.Snapshots.{encode, decode}
 use Rattle.snapshot.specs.EventBytes.{stepEvent}
 use Rattle.snapshot.specs.Split.{splitState}
 use Rattle.snapshot.proofs.RoundTrip.{length-encode, good-decode}
-use Rattle.trace.specs.Editions.{base}
+use Rattle.image.specs.Editions.{base}
 use Rattle.hsc.proofs.stepping.step_over.Statement.{statement}
 use Rattle.hsc.proofs.stepping.step_over.Tie as tie
 

@@ -12,12 +12,12 @@ use Rattle.word.specs.LittleEndian.{numberAt}
 use Rattle.snapshot.specs.Widths.{snapshotSize}
 use Rattle.snapshot.specs.Snapshots.{decode}
 use Rattle.refusal.specs.Refusals.{Answer, given, refusal, _andThen_}
-use Rattle.trace.specs.Header.{headerSize, eventCount, snapshotCount}
-use Rattle.trace.specs.Verdicts.{replayVerdict, ValidTrace}
-use Rattle.trace.specs.Replays.{finalState}
+use Rattle.image.specs.Header.{headerSize, eventCount, snapshotCount}
+use Rattle.image.specs.Verdicts.{replayVerdict, ValidTrace}
+use Rattle.image_replay.specs.Replays.{finalState}
 use Rattle.refusal.proofs.Answers.{refused-then, accepted-answer, accepted-then}
-use Rattle.trace.proofs.Accepted.{trace-passed}
-use Rattle.trace.proofs.Theorem.{replay-length, replay-number, final-decoded, final-length}
+use Rattle.image.proofs.Accepted.{trace-passed}
+use Rattle.image_replay.proofs.Theorem.{replay-length, replay-number, final-decoded, final-length}
 use Rattle.counter.specs.declared.state.Counter.{Counter}
 use Rattle.report.specs.Line.{refusalLine}
 use Rattle.report.specs.Office.{lineOf}

@@ -1,0 +1,4 @@
+-- The laws of mending. `Theorem` states what a user of it asks for.
+pub mod Bounds
+pub mod Edits
+pub mod Theorem

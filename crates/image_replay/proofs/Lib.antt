@@ -1,0 +1,2 @@
+-- What a user of replay asks for.
+pub mod Theorem

@@ -1,0 +1,2 @@
+-- Document 01's replay of an image.
+pub mod Replays
