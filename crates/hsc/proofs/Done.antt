@@ -10,7 +10,7 @@ use lib.ListN.{length}
 use Rattle.snapshot.specs.Widths.{snapshotSize, eventSize}
 use Rattle.snapshot.specs.FormedBytes.{formed}
 use Rattle.snapshot.specs.EventBytes.{legalEvent}
-use Rattle.refusal.specs.Refusals.{Answer, refused, given, Placed}
+use Rattle.refusal.specs.Refusals.{given, Placed}
 use Rattle.refusal.proofs.Answers.{passed, placed-test}
 use Rattle.hsc.specs.Calls.{stepVerdict, readVerdict}
 
@@ -43,7 +43,10 @@ module _ (s e : List ℕ) where
   pub step-placed : Placed (stepVerdict s e)
   unfolding stepVerdict
   step-placed =
-      placed-test (not long) 9 _ λ _. placed-test (not whole) 9 _ λ _. placed-test (not (legalEvent e)) 5 _ λ _. placed-test (not (formed s)) 6 (given tt) λ _. tt
+      placed-test (not long) 9 _ λ _.
+      placed-test (not whole) 9 _ λ _.
+      placed-test (not (legalEvent e)) 5 _ λ _.
+      placed-test (not (formed s)) 6 (given tt) λ _. tt
 
 pub read-passed : (s : List ℕ) → readVerdict s ≡ given tt → length s ≡ snapshotSize
 unfolding readVerdict

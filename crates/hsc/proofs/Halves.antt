@@ -2,7 +2,7 @@
 use mathlib.Core.Path.{_≡_}
 use Prim.Native.Nat.{ℕ, _/_, _%_, _^_, _<_}
 use native.Mathlib.Omega.{arith}
-use Rattle.refusal.specs.Refusals.{Answer, refused, statusOf}
+use Rattle.refusal.specs.Refusals.{refused, statusOf}
 
 module _ (number place : ℕ) (h : number < 2 ^ 32) where
   pub status-number : statusOf {A = Unit} (refused number place) % 2 ^ 32 ≡ number

@@ -1,5 +1,5 @@
 -- Document 01, "Trace image": event check is refused by 9 alone, step by 9, 5 and 6 in this order, reading by 9 and 6, each at place 0. None is
--- given otherwise. Replay and mending are crate `trace`'s.
+-- given otherwise. Replay and mending of an image are the `image` crates'.
 use mathlib.Core.Bool.{cond, not}
 use mathlib.Core.List.{List, [], _∷_}
 use Prim.Native.Nat.{ℕ}

@@ -11,12 +11,10 @@ use snapshot::EVENT_SIZE;
 ghost use mathlib.Core.Path.{_≡_};
 ghost use Prim.Native.Nat.{_+_, _*_, _≤_};
 ghost use lib.Dec.{ltb};
-ghost use lib.ListN.{length};
-ghost use Rattle.replay.specs.Image.{snapshots};
-ghost use Rattle.snapshot.specs.Widths.{eventSize};
-ghost use Rattle.image.specs.Editions.{system};
 ghost use Rattle.refusal.specs.Refusals.{verdictOf, given};
-ghost use Rattle.image.specs.Header.{headerSize, eventCount, shapeOf, systemOf, editionOf, headerVerdict};
+ghost use Rattle.replay.specs.Image.{snapshots, snapshotPlace};
+ghost use Rattle.image.specs.Editions.{system};
+ghost use Rattle.image.specs.Header.{headerSize, eventCount, shapeOf, systemOf, headerVerdict};
 ghost use Rattle.image.specs.Verdicts.{lengthVerdict, eventsVerdict, imageVerdict, startsVerdict, replayVerdict};
 ghost use Rattle.image.specs.Verdicts.{patchVerdict, startVerdict, editVerdict, mendVerdict};
 
@@ -63,14 +61,21 @@ pub fn image_verdict(image: &[u8]) -> Verdict
     }
 }
 
+// The byte at which snapshot s begins, of an image that refusals 1 to 5 leave.
+fn snapshot_at(image: &[u8], s: usize) -> usize
+    requires { ⌜ (imageVerdict (now image) ≡ given tt) × (s + 1 ≤ snapshots (shapeOf (now image))) ⌝ }
+    ensures { λ r. ⌜ r ≡ snapshotPlace (systemOf (now (image .entry))) (shapeOf (now (image .entry))) s ⌝ }
+{
+    let size = edition::size(header::edition(image));
+    snapshot_place(number(image, header::EVENT_COUNT), size, s)
+}
+
 // Refusal 6 at 0, where replay may not start.
 fn starts_verdict(image: &[u8]) -> Verdict
     requires { ⌜ imageVerdict (now image) ≡ given tt ⌝ }
     ensures { λ r. ⌜ verdictOf r ≡ startsVerdict (now (image .entry)) ⌝ }
 {
-    let ed = header::edition(image);
-    let at = snapshot_place(number(image, header::EVENT_COUNT), edition::size(ed), 0);
-    if edition::starts(ed, image, at) {
+    if edition::starts(header::edition(image), image, snapshot_at(image, 0)) {
         Verdict::Accepted
     } else {
         Verdict::Refused(Refusal::Snapshot(0))
@@ -119,9 +124,7 @@ fn start_verdict(image: &[u8], s: usize) -> Verdict
     requires { ⌜ (imageVerdict (now image) ≡ given tt) × (s + 1 ≤ snapshots (shapeOf (now image))) ⌝ }
     ensures { λ r. ⌜ verdictOf r ≡ startVerdict (now (image .entry)) s ⌝ }
 {
-    let ed = header::edition(image);
-    let at = snapshot_place(number(image, header::EVENT_COUNT), edition::size(ed), s);
-    if edition::formed(ed, image, at) {
+    if edition::formed(header::edition(image), image, snapshot_at(image, s)) {
         Verdict::Accepted
     } else {
         Verdict::Refused(Refusal::Snapshot(s))

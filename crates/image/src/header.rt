@@ -9,8 +9,8 @@ ghost use mathlib.Core.Path.{_≡_};
 ghost use Prim.Native.Nat.{_+_, _*_, _^_, _≤_, _<_};
 ghost use lib.ListN.{length};
 ghost use Rattle.word.specs.LittleEndian.{numberAt};
-ghost use Rattle.snapshot.specs.Widths.{eventSize};
 ghost use Rattle.refusal.specs.Refusals.{verdictOf};
+ghost use Rattle.snapshot.specs.Widths.{eventSize};
 ghost use Rattle.image.specs.Header.{headerSize, maxEvents, editionOf, limitsBroken, offsetsBroken, headerVerdict};
 
 // The bytes of the header.

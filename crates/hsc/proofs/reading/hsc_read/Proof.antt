@@ -1,7 +1,6 @@
 -- `hsc::reading::hsc_read` meets its contract: the status is the verdict's, and only at status 0, where the length is right, are the fields filled.
 use borrow.Author.Needs.{needs}
 use mathlib.Core.Path.{_≡_, sym, ap, subst, _∙_}
-use mathlib.Core.List.{List}
 use native.Mathlib.Nat.{le-of-eq}
 use denote.Ref.{now}
 use lib.ListN.{length}

@@ -1,7 +1,7 @@
 -- `hsc::replaying::hsc_replay` meets its contract: the status is that of replay's verdict, whose place fits its half.
 use borrow.Author.Needs.{needs}
 use mathlib.Core.Path.{sym, ap, subst, _∙_}
-use Rattle.refusal.specs.Refusals.{Answer, statusOf, Placed}
+use Rattle.refusal.specs.Refusals.{statusOf, Placed}
 use Rattle.image.proofs.Bounds.{replay-placed}
 use Rattle.hsc.proofs.replaying.hsc_replay.Statement.{statement}
 use Rattle.hsc.proofs.replaying.hsc_replay.Tie as tie

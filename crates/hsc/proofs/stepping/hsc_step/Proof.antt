@@ -1,7 +1,6 @@
 -- `hsc::stepping::hsc_step` meets its contract: the status is the verdict's, and only at status 0, where both lengths are right, is the buffer written.
 use borrow.Author.Needs.{needs}
 use mathlib.Core.Path.{_≡_, sym, ap, subst, _∙_}
-use mathlib.Core.List.{List}
 use denote.Ref.{now}
 use Rattle.snapshot.specs.Snapshots.{encode, decode}
 use Rattle.snapshot.specs.EventBytes.{stepEvent}

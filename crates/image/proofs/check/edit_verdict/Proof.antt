@@ -1,16 +1,16 @@
--- `trace::check::edit_verdict` meets its contract: the verdict on the patch, and then that on the snapshot before its first place, which
+-- `image::check::edit_verdict` meets its contract: the verdict on the patch, and then that on the snapshot before its first place, which
 -- stands in the table.
 use borrow.Author.Needs.{needs}
 use mathlib.Core.Path.{_≡_, ap, ap₂, _∙_}
-use Prim.Native.Nat.{ℕ, _+_, _/_, _≤_}
+use Prim.Native.Nat.{ℕ, _/_}
 use native.Mathlib.Omega.{arith}
+use Rattle.refusal.specs.Refusals.{verdictOf}
+use Rattle.refusal.proofs.Answers.{refused-first, accepted-answer, accepted-then}
 use Rattle.replay.proofs.Image.{first-within}
 use Rattle.image.specs.declared.edition.Edition.{Edition}
 use Rattle.image.specs.Editions.{system}
-use Rattle.refusal.specs.Refusals.{verdictOf}
 use Rattle.image.specs.Header.{eventCount, systemOf, shapeOf}
 use Rattle.image.specs.Verdicts.{patchVerdict, startVerdict, editVerdict}
-use Rattle.refusal.proofs.Answers.{refused-first, accepted-answer, accepted-then}
 use Rattle.image.proofs.Accepted.{Passed, image-passed}
 use Rattle.image.proofs.Mendable.{patch-passed}
 use Rattle.image.proofs.check.edit_verdict.Statement.{statement}

@@ -1,9 +1,7 @@
--- `trace::check::events_verdict` meets its contract: what the scan found is the verdict, and the events lie in the image.
-use mathlib.Core.Path.{_≡_, ap, ap₂, _∙_}
-use Prim.Native.Nat.{ℕ, _+_, _*_, _≤_}
+-- `image::check::events_verdict` meets its contract: what the scan found is the verdict, and the events lie in the image.
+use mathlib.Core.Path.{ap₂, _∙_}
+use Prim.Native.Nat.{ℕ}
 use native.Mathlib.Omega.{arith}
-use lib.ListN.{length}
-use Rattle.snapshot.specs.Widths.{eventSize}
 use Rattle.image.specs.declared.edition.Edition.{Edition}
 use Rattle.image.specs.Editions.{system}
 use Rattle.image.specs.Header.{headerSize}

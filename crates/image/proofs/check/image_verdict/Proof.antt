@@ -1,10 +1,10 @@
--- `trace::check::image_verdict` meets its contract: the first of the three verdicts that refuses is the answer.
+-- `image::check::image_verdict` meets its contract: the first of the three verdicts that refuses is the answer.
 use borrow.Author.Needs.{needs}
 use mathlib.Core.Path.{_≡_}
 use Rattle.refusal.specs.Refusals.{given}
+use Rattle.refusal.proofs.Answers.{refused-first, accepted-answer, accepted-then}
 use Rattle.image.specs.Header.{headerVerdict}
 use Rattle.image.specs.Verdicts.{imageVerdict}
-use Rattle.refusal.proofs.Answers.{refused-first, accepted-answer, accepted-then}
 use Rattle.image.proofs.check.image_verdict.Statement.{statement}
 use Rattle.image.proofs.check.image_verdict.Tie as tie
 

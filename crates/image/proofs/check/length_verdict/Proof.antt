@@ -1,4 +1,4 @@
--- `trace::check::length_verdict` meets its contract: the table's end is a number that fits, since the header's numbers are within their limits.
+-- `image::check::length_verdict` meets its contract: the table's end is a number that fits, since the header's numbers are within their limits.
 use borrow.Author.Needs.{needs}
 use borrow.Author.Tests.{eq-eqb, ne-eqb}
 use mathlib.Core.Path.{_≡_, sym, ap, _∙_}
@@ -6,7 +6,6 @@ use mathlib.Core.List.{List}
 use Prim.Native.Nat.{ℕ, _+_, _*_, _≤_}
 use native.Mathlib.Nat.{div-le-self, mul-le-mul}
 use native.Mathlib.Omega.{arith}
-use lib.ListN.{length}
 use Rattle.image.specs.declared.edition.Edition.{Edition}
 use Rattle.image.specs.Editions.{system, maxSize}
 use Rattle.image.specs.Header.{headerSize, maxEvents, eventCount, spacingOf, snapshotCount, snapshotOffset, systemOf}

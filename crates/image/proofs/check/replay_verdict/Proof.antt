@@ -1,7 +1,7 @@
--- `trace::check::replay_verdict` meets its contract: the verdict on the image, and then that on its start.
+-- `image::check::replay_verdict` meets its contract: the verdict on the image, and then that on its start.
 use borrow.Author.Needs.{needs}
-use Rattle.image.specs.Verdicts.{replayVerdict}
 use Rattle.refusal.proofs.Answers.{refused-first, accepted-answer, accepted-then}
+use Rattle.image.specs.Verdicts.{replayVerdict}
 use Rattle.image.proofs.check.replay_verdict.Statement.{statement}
 use Rattle.image.proofs.check.replay_verdict.Tie as tie
 

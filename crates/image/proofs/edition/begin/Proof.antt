@@ -1,4 +1,4 @@
--- `trace::edition::begin` meets its contract: fresh is written over snapshot 0.
+-- `image::edition::begin` meets its contract: fresh is written over snapshot 0.
 use borrow.Author.Needs.{needs}
 use mathlib.Core.Path.{ap, _∙_}
 use denote.Ref.{now}

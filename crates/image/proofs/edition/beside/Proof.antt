@@ -1,4 +1,4 @@
--- `trace::edition::beside` meets its contract: each edition's number is its system's.
+-- `image::edition::beside` meets its contract: each edition's number is its system's.
 use mathlib.Core.Path.{refl}
 use lib.Dec.{lit≤}
 use Rattle.image.proofs.Laws.{is-base}

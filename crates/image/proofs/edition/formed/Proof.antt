@@ -1,4 +1,4 @@
--- `trace::edition::formed` meets its contract: each edition's test is its system's.
+-- `image::edition::formed` meets its contract: each edition's test is its system's.
 use Rattle.image.proofs.Laws.{is-base}
 use Rattle.image.proofs.edition.formed.Statement.{statement}
 use Rattle.image.proofs.edition.formed.Tie as tie

@@ -1,4 +1,4 @@
--- `trace::edition::legal` meets its contract: each edition's test is its system's.
+-- `image::edition::legal` meets its contract: each edition's test is its system's.
 use borrow.Author.Needs.{needs}
 use Rattle.image.proofs.Laws.{is-base}
 use Rattle.image.proofs.edition.legal.Statement.{statement}

@@ -1,6 +1,6 @@
--- `trace::edition::load` meets its contract: a well-formed snapshot holds a good state, which stands in the bytes that were copied.
+-- `image::edition::load` meets its contract: a well-formed snapshot holds a good state, which stands in the bytes that were copied.
 use borrow.Author.Needs.{needs}
-use mathlib.Core.Path.{_≡_, sym, _∙_, subst}
+use mathlib.Core.Path.{sym, _∙_, subst}
 use Rattle.word.proofs.Part.{length-part, bytes-part}
 use Rattle.counter.specs.WellFormed.{Good}
 use Rattle.snapshot.specs.Widths.{snapshotSize}

@@ -1,4 +1,4 @@
--- `trace::edition::starts` meets its contract: fresh is a start whatever stands in snapshot 0.
+-- `image::edition::starts` meets its contract: fresh is a start whatever stands in snapshot 0.
 use mathlib.Core.Path.{refl}
 use Rattle.image.proofs.Laws.{is-base}
 use Rattle.image.proofs.edition.starts.Statement.{statement}

@@ -1,6 +1,6 @@
--- `trace::edition::step` meets its contract: any event of 12 bytes keeps a good state good, so the bytes hold the state after it.
+-- `image::edition::step` meets its contract: any event of 12 bytes keeps a good state good, so the bytes hold the state after it.
 use borrow.Author.Needs.{needs}
-use mathlib.Core.Path.{_≡_, sym, _∙_, subst}
+use mathlib.Core.Path.{sym, _∙_, subst}
 use Rattle.word.proofs.Part.{length-part, bytes-part}
 use Rattle.counter.specs.WellFormed.{Good}
 use Rattle.snapshot.specs.Widths.{eventSize}

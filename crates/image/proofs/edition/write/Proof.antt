@@ -1,4 +1,4 @@
--- `trace::edition::write` meets its contract: each edition writes its own snapshot.
+-- `image::edition::write` meets its contract: each edition writes its own snapshot.
 use borrow.Author.Needs.{needs}
 use Rattle.image.proofs.Laws.{is-base}
 use Rattle.image.proofs.edition.write.Statement.{statement}

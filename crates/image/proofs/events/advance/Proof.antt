@@ -1,4 +1,4 @@
--- `trace::events::advance` meets its contract. The invariant: the lent bytes hold the state after the first i events; an iteration is one event
+-- `image::events::advance` meets its contract. The invariant: the lent bytes hold the state after the first i events; an iteration is one event
 -- more. The measure is what is left of the events.
 use mathlib.Core.Path.{_≡_, sym, ap, _∙_}
 use Prim.Native.Nat.{_-_, _≤_}

@@ -1,4 +1,4 @@
--- `trace::events::first_illegal` meets its contract. The invariant: scanning on from here finds what the whole scan finds. The measure is
+-- `image::events::first_illegal` meets its contract. The invariant: scanning on from here finds what the whole scan finds. The measure is
 -- what is left of the events.
 use mathlib.Core.Path.{_≡_, sym, ap, _∙_}
 use Prim.Native.Nat.{_-_, _≤_}

@@ -1,4 +1,4 @@
--- `trace::header::offsets_broken` meets its contract: each test is one of the definition, and a quotient is at most what was divided.
+-- `image::header::offsets_broken` meets its contract: each test is one of the definition, and a quotient is at most what was divided.
 use borrow.Author.Needs.{needs}
 use native.Mathlib.Nat.{div-le-self}
 use native.Mathlib.Omega.{arith}

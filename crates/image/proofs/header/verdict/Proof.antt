@@ -1,4 +1,4 @@
--- `trace::header::verdict` meets its contract: the tests are those of the definition, in its order, on the numbers that the header holds.
+-- `image::header::verdict` meets its contract: the tests are those of the definition, in its order, on the numbers that the header holds.
 use borrow.Author.Needs.{needs}
 use borrow.Author.Tests.{lt-ltb, le-ltb}
 use mathlib.Core.Path.{_≡_, sym, _∙_}

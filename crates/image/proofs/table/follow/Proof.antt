@@ -1,4 +1,4 @@
--- `trace::table::follow` meets its contract: the events between two snapshots are those from the place that was found.
+-- `image::table::follow` meets its contract: the events between two snapshots are those from the place that was found.
 use borrow.Author.Needs.{needs}
 use native.Mathlib.Omega.{arith}
 use Rattle.replay.proofs.Run.{run-at}

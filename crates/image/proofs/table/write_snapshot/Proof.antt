@@ -1,4 +1,4 @@
--- `trace::table::write_snapshot` meets its contract: the place that was found is snapshot j's.
+-- `image::table::write_snapshot` meets its contract: the place that was found is snapshot j's.
 use borrow.Author.Needs.{needs}
 use mathlib.Core.Path.{_≡_, ap, _∙_}
 use mathlib.Core.List.{List}

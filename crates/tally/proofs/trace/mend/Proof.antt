@@ -1,6 +1,6 @@
 -- `tally::trace::mend` meets its contract: the patch is copied, and mending goes on from the state that snapshot s holds. The claim is the
 -- theorem of `replay` at that answer.
-use mathlib.Core.Path.{_≡_, refl, _∙_}
+use mathlib.Core.Path.{refl, _∙_}
 use Prim.Native.Nat.{_<_}
 use native.Mathlib.Omega.{arith}
 use lib.ListN.{length}
