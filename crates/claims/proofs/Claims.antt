@@ -16,11 +16,13 @@ use Rattle.word.specs.Masks.{bit}
 use Rattle.word.specs.Part.{Bytes, part}
 use Rattle.counter.specs.declared.state.Settings.{Settings}
 use Rattle.counter.specs.declared.state.Counter.{Counter}
-use Rattle.counter.specs.Parts.{flag, fresh, LOADED, OF, UF, lowPreset, highPreset, underflow, overflow, withStaged}
+use Rattle.accumulator.specs.Causes.{lowPreset, highPreset, underflow, overflow}
+use Rattle.counter.specs.Parts.{flag, fresh, LOADED, OF, UF, withStaged}
 use Rattle.counter.specs.WellFormed.{Good, wellFormed}
 use Rattle.counter.specs.Loading.{rules, presetRules, First, AllPass, Accepted, Rejected, withPresets, load, presetLoad}
 use Rattle.counter.specs.Interrupts.{presetWord, causeWord}
-use Rattle.counter.specs.Sample.{up, down, upFlags, downFlags, sample}
+use Rattle.accumulator.specs.Count.{up, down}
+use Rattle.counter.specs.Sample.{upFlags, downFlags, sample}
 use Rattle.counter.specs.Events.{programWord, outputWrite, step}
 use Rattle.counter.specs.Bench.{bench}
 use Rattle.snapshot.specs.Widths.{eventSize, snapshotSize, movingSize}
@@ -51,6 +53,7 @@ use Rattle.hsc.specs.Calls.{checkAnswer, stepAnswer, stepAfter, readAnswer, rea
 use Rattle.report.specs.Office.{officeLine}
 use Rattle.word.proofs as word
 use Rattle.refusal.proofs.Answers as refusals
+use Rattle.accumulator.proofs as accumulator
 use Rattle.counter.proofs as counter
 use Rattle.snapshot.proofs as snapshot
 use Rattle.replay.proofs as replay
@@ -163,25 +166,25 @@ step-good = counter.Steps.step-good
 
 -- a count up overflows exactly past OVF, and raises the high preset exactly where it lands on it
 pub up-overflow : (single : Bool) (acc hip ovf unf : ℤ) → (up single acc hip ovf unf .cause ≡ overflow) ↔ (leZ ovf acc ≡ true)
-up-overflow = counter.Landing.up-overflow
+up-overflow = accumulator.Landing.up-overflow
 
 pub up-preset : (single : Bool) (acc hip ovf unf : ℤ)
     → (up single acc hip ovf unf .cause ≡ highPreset) ↔ ((leZ ovf acc ≡ false) × (acc +ℤ pos 1 ≡ hip))
-up-preset = counter.Landing.up-preset
+up-preset = accumulator.Landing.up-preset
 
 -- a count down underflows exactly past UNF, and raises the low preset exactly where it lands on it
 pub down-underflow : (acc lop ovf unf : ℤ) → (down acc lop ovf unf .cause ≡ underflow) ↔ (leZ acc unf ≡ true)
-down-underflow = counter.Landing.down-underflow
+down-underflow = accumulator.Landing.down-underflow
 
 pub down-preset : (acc lop ovf unf : ℤ) → (down acc lop ovf unf .cause ≡ lowPreset) ↔ ((leZ acc unf ≡ false) × (acc -ℤ pos 1 ≡ lop))
-down-preset = counter.Landing.down-preset
+down-preset = accumulator.Landing.down-preset
 
 -- OF is set by overflow alone, UF by underflow alone
 pub upFlags-of : (single : Bool) (cause w : ℕ) → bit (upFlags single cause w) OF ≡ cond (eqb cause overflow) true (bit w OF)
-upFlags-of = counter.Landing.upFlags-of
+upFlags-of = counter.Flags.upFlags-of
 
 pub downFlags-uf : (cause w : ℕ) → bit (downFlags cause w) UF ≡ cond (eqb cause underflow) true (bit w UF)
-downFlags-uf = counter.Landing.downFlags-uf
+downFlags-uf = counter.Flags.downFlags-uf
 
 -- a load's ER is a rule's number exactly when that rule is the first one broken, and 0 exactly when none is (rule 1 is at place 0)
 pub load-refused : (c : Counter) (k : ℕ) → (load c .er ≡ 1 + k) ↔ First (rules (c .staged)) k

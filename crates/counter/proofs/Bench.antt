@@ -3,10 +3,11 @@ use mathlib.Core.Path.{_≡_, refl}
 use mathlib.Core.Bool.{true}
 use lib.ListN.{replicate}
 use Rattle.word.specs.Masks.{bit, setBit, clearBit, merge}
+use Rattle.accumulator.specs.Count.{up, down}
 use Rattle.counter.specs.Desk.{post, finish}
 use Rattle.counter.specs.Parts.{fresh, modeOf}
 use Rattle.counter.specs.Interrupts.{presetWord, causeWord, unmasked, enabled, quiet, started, postedFlags, finishedFlags, interrupt, routineDone, raise}
-use Rattle.counter.specs.Sample.{up, down, upFlags, downFlags, countedBy}
+use Rattle.counter.specs.Sample.{upFlags, downFlags, countedBy}
 use Rattle.counter.specs.Bench.{bench}
 
 pub bench-holds : bench ≡ replicate 12 true

@@ -1,4 +1,5 @@
--- What the flag word keeps when other flags are set or cleared: it stays below 2 ^ 20, and ED and LOADED keep their levels.
+-- What the flag word keeps when other flags are set or cleared: it stays below 2 ^ 20, and ED and LOADED keep their levels. And what a count
+-- sets: OF and UF by a rollover alone.
 use mathlib.Core.Path.{_≡_, refl, ap, _∙_}
 use mathlib.Core.Bool.{Bool, true, false, cond, _&&_}
 use Prim.Native.Nat.{ℕ, _<_, _^_}
@@ -7,11 +8,12 @@ use lib.Dec.{T, eqb, ltb, lit<}
 use Rattle.word.specs.Masks.{bit, setBit, clearBit}
 use Rattle.word.proofs.Masks.{bit-setBit, bit-clearBit, setBit-lt, clearBit-le}
 use Rattle.word.proofs.Branches.{cond-cases}
+use Rattle.accumulator.specs.Causes.{lowPreset, highPreset, underflow, overflow}
 use Rattle.counter.specs.declared.desk.Outcome.{Outcome}
 use Rattle.counter.specs.declared.desk.Outcome.the-variants.{Starts, Waits, Lost}
 use Rattle.counter.specs.declared.desk.Next.{Next}
 use Rattle.counter.specs.declared.desk.Next.the-variants.{Cause, Nothing}
-use Rattle.counter.specs.Parts.{UIL, ED, LOADED, DIR, UF, OF, MD, LPI, HPI, UFI, OFI, lowPreset, highPreset, underflow, overflow}
+use Rattle.counter.specs.Parts.{UIL, ED, LOADED, DIR, UF, OF, MD, LPI, HPI, UFI, OFI}
 use Rattle.counter.specs.Interrupts.{quiet, started, postedFlags, finishedFlags}
 use Rattle.counter.specs.Sample.{upFlags, downFlags}
 
@@ -104,3 +106,24 @@ pub kept-finished : (next : Next) (w : ℕ) → Kept w (finishedFlags next w)
 unfolding finishedFlags
 kept-finished (Cause cause) w = kept-started cause w
 kept-finished Nothing w = kept-refl w
+
+-- ---- what a count sets
+
+-- OF is set by overflow alone, MD by the high preset in modes 0 and 1 alone
+pub upFlags-of : (single : Bool) (cause w : ℕ) → bit (upFlags single cause w) OF ≡ cond (eqb cause overflow) true (bit w OF)
+unfolding upFlags
+upFlags-of single cause w = go (eqb cause overflow) (eqb cause highPreset && single)
+  where
+    go : (a b : Bool) → bit (cond a (setBit (setBit w DIR) OF) (cond b (setBit (setBit w DIR) MD) (setBit w DIR))) OF ≡ cond a true (bit w OF)
+    go true b = bit-setBit (setBit w DIR) OF OF
+    go false true = bit-setBit (setBit w DIR) MD OF ∙ bit-setBit w DIR OF
+    go false false = bit-setBit w DIR OF
+
+-- UF is set by underflow alone
+pub downFlags-uf : (cause w : ℕ) → bit (downFlags cause w) UF ≡ cond (eqb cause underflow) true (bit w UF)
+unfolding downFlags
+downFlags-uf cause w = go (eqb cause underflow)
+  where
+    go : (a : Bool) → bit (cond a (setBit (clearBit 32 w DIR) UF) (clearBit 32 w DIR)) UF ≡ cond a true (bit w UF)
+    go true = bit-setBit (clearBit 32 w DIR) UF UF
+    go false = bit-clearBit 32 w DIR UF (lit< tt) (lit< tt)

@@ -4,10 +4,11 @@ use mathlib.Core.Bool.{Bool, true, false, not, Bool·beq, and-eq-true-iff, false
 use Prim.Native.Nat.{_<_, _≤_, _^_}
 use borrow.Author.Tests.{ltb-true, leb-true, eqb-true, lt-ltb, le-leb, eq-eqb}
 use lib.Dec.{eqb}
+use Rattle.accumulator.specs.Causes.{causeCount}
 use Rattle.counter.specs.declared.desk.Desk.{Desk}
 use Rattle.counter.specs.declared.state.Counter.{Counter}
 use Rattle.counter.specs.Desk.{first, second, queuedOf}
-use Rattle.counter.specs.Parts.{flag, ED, causeCount}
+use Rattle.counter.specs.Parts.{flag, ED}
 use Rattle.counter.specs.Loading.{ruleCount}
 use Rattle.counter.specs.WellFormed.{activeFormed, partsFormed, wellFormed}
 use Rattle.counter.proofs.Queue.{Causes}

@@ -1,11 +1,12 @@
 -- A cause that becomes an interrupt and a routine that is done keep a state well formed: the desk stays so, and the flags keep ED and LOADED.
 use Prim.Native.Nat.{ℕ}
+use Rattle.accumulator.specs.Causes.{causeCount}
 use Rattle.counter.specs.declared.desk.Desk.{Desk}
 use Rattle.counter.specs.declared.desk.Outcome.{Outcome}
 use Rattle.counter.specs.declared.desk.Next.{Next}
 use Rattle.counter.specs.declared.state.Counter.{Counter}
 use Rattle.counter.specs.Desk.{post, finish}
-use Rattle.counter.specs.Parts.{causeCount, withDesk}
+use Rattle.counter.specs.Parts.{withDesk}
 use Rattle.counter.specs.Interrupts.{postedFlags, finishedFlags, interrupt, routineDone}
 use Rattle.counter.proofs.Flags.{kept-posted, kept-finished}
 use Rattle.counter.proofs.Queue.{IsCause, WellDesk, well-post, well-finish}

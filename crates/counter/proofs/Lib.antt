@@ -7,9 +7,7 @@ pub mod FirstBroken
 pub mod Flags
 pub mod Formed
 pub mod Interrupting
-pub mod Landing
 pub mod Legal
-pub mod Limits
 pub mod LoadEffects
 pub mod Loads
 pub mod Modes

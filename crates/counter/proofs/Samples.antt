@@ -14,17 +14,19 @@ use Rattle.word.specs.Masks.{bit, merge}
 use Rattle.word.specs.TwosComplement.{eqZ}
 use Rattle.word.proofs.Masks.{merge-lt}
 use Rattle.word.proofs.Branches.{cond-cases}
+use Rattle.accumulator.specs.declared.Counted.{Counted}
+use Rattle.accumulator.specs.Causes.{lowPreset, highPreset, overflow, causeCount}
+use Rattle.accumulator.specs.Count.{counted, up, down}
+use Rattle.accumulator.proofs.Limits.{up-fits, down-fits}
 use Rattle.counter.specs.declared.desk.Desk.{Desk}
 use Rattle.counter.specs.declared.state.Counter.{Counter}
-use Rattle.counter.specs.declared.state.Counted.{Counted}
 use Rattle.counter.specs.declared.state.Sampled.{Sampled}
 use Rattle.counter.specs.declared.state.Count.{Count}
 use Rattle.counter.specs.declared.state.Count.the-variants.{None, Up, Down}
-use Rattle.counter.specs.Parts.{FE, UIE, lowPreset, highPreset, overflow, causeCount, withAcc, withFlags, withLevels, withDesk, upOnly, mode}
+use Rattle.counter.specs.Parts.{FE, UIE, withAcc, withFlags, withLevels, withDesk, upOnly, mode}
 use Rattle.counter.specs.Interrupts.{outputMask, presetWord, causeWord, unmasked, enabled, withOutputs, raise}
-use Rattle.counter.specs.Sample.{counted, up, down, upOf, downOf, sampledAs, unmoved, countedBy, resets, mayCount, count, sampled, sample}
+use Rattle.counter.specs.Sample.{upOf, downOf, sampledAs, unmoved, countedBy, resets, mayCount, count, sampled, sample}
 use Rattle.counter.specs.Events.{programWord}
-use Rattle.counter.proofs.Limits.{up-fits, down-fits}
 use Rattle.counter.proofs.Flags.{Kept, kept-refl, kept-upFlags, kept-downFlags}
 use Rattle.counter.proofs.Changes.{Well, well-out, well-acc, well-flags, well-levels}
 use Rattle.counter.proofs.Queue.{IsCause}

@@ -5,14 +5,14 @@ use mir.Val.{SFits}
 use denote.Struct.Declared.{fields}
 use denote.Struct.Struct.{AreAll}
 use denote.RattleType.{Valss}
+use Rattle.accumulator.specs.declared.Counted.{Counted}
+use Rattle.accumulator.proofs.Counted as counted
 use Rattle.counter.specs.declared.state.Settings.{Settings}
 use Rattle.counter.specs.declared.state.Counter.{Counter}
-use Rattle.counter.specs.declared.state.Counted.{Counted}
 use Rattle.counter.specs.declared.state.Sampled.{Sampled}
 use Rattle.counter.specs.WellFormed.{SettingsTyped, Typed}
 use Rattle.counter.proofs.state.Settings as settings
 use Rattle.counter.proofs.state.Counter as counter
-use Rattle.counter.proofs.state.Counted as counted
 use Rattle.counter.proofs.state.Sampled as sampled
 
 pub settings-typed : (s : Settings) (vss : Valss (fields settings.the-type)) → AreAll (fields settings.the-type) (settings.the-type .to s) vss → SettingsTyped s

@@ -10,12 +10,13 @@ use lib.Dec.{eqb, ltb, lit<}
 use lib.IntN.{ℤ}
 use Rattle.word.specs.Masks.{bit}
 use Rattle.word.proofs.Masks.{bit-merge, bit-mod, bit-above}
+use Rattle.accumulator.specs.Causes.{lowPreset, highPreset}
 use Rattle.counter.specs.declared.state.Settings.{Settings}
 use Rattle.counter.specs.declared.state.Counter.{Counter}
 use Rattle.counter.specs.declared.state.Sampled.{Sampled}
 use Rattle.counter.specs.declared.state.Count.{Count}
 use Rattle.counter.specs.declared.state.Count.the-variants.{None, Up, Down}
-use Rattle.counter.specs.Parts.{lowPreset, highPreset, withStaged, withAcc, withFlags, withLevels}
+use Rattle.counter.specs.Parts.{withStaged, withAcc, withFlags, withLevels}
 use Rattle.counter.specs.Interrupts.{outputMask, presetWord, causeWord, enabled, interrupt, withOutputs, raise}
 use Rattle.counter.specs.Sample.{countedBy, resets, mayCount, count, sampled, applied, sample}
 use Rattle.counter.specs.Events.{programWord, outputWrite}

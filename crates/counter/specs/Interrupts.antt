@@ -3,13 +3,14 @@ use mathlib.Core.Bool.{Bool, false, cond, _&&_}
 use Prim.Native.Nat.{ℕ, _%_}
 use lib.Dec.{eqb}
 use Rattle.word.specs.Masks.{bit, setBit, clearBit, merge}
+use Rattle.accumulator.specs.Causes.{lowPreset, highPreset, underflow, overflow}
 use Rattle.counter.specs.declared.state.Counter.{Counter}
 use Rattle.counter.specs.declared.desk.Outcome.{Outcome}
 use Rattle.counter.specs.declared.desk.Outcome.the-variants.{Starts, Waits, Lost}
 use Rattle.counter.specs.declared.desk.Next.{Next}
 use Rattle.counter.specs.declared.desk.Next.the-variants.{Cause, Nothing}
 use Rattle.counter.specs.Desk.{post, finish}
-use Rattle.counter.specs.Parts.{UIE, UIL, FE, LPM, HPM, UFM, OFM, LPI, HPI, UFI, OFI, lowPreset, highPreset, underflow, overflow, withOut}
+use Rattle.counter.specs.Parts.{UIE, UIL, FE, LPM, HPM, UFM, OFM, LPI, HPI, UFI, OFI, withOut}
 use Rattle.counter.specs.Parts.{withFlags, withDesk}
 
 -- ---- outputs

@@ -71,24 +71,6 @@ MD = 18
 abbrev pub LOADED : ℕ
 LOADED = 19
 
--- ---- causes; 0 is none
-
-abbrev pub lowPreset : ℕ
-lowPreset = 1
-
-abbrev pub highPreset : ℕ
-highPreset = 2
-
-abbrev pub underflow : ℕ
-underflow = 3
-
-abbrev pub overflow : ℕ
-overflow = 4
-
--- the causes are the numbers from 1 to this
-abbrev pub causeCount : ℕ
-causeCount = 4
-
 -- ---- settings with one part changed
 
 abbrev pub withPfn : ℤ → Settings → Settings

@@ -1,17 +1,17 @@
--- Document 01, "One input sample": edges, reset and hold, the mode's table, and a count up or down.
+-- Document 01, "One input sample": edges, reset and hold, the mode's table, and what a count makes of ACC and the flags.
 use mathlib.Core.Bool.{Bool, cond, not, _&&_}
 use Prim.Native.Nat.{ℕ, _%_}
 use lib.Dec.{eqb, ltb}
-use lib.IntN.{ℤ, pos, _+ℤ_, _-ℤ_}
-use lib.Signed.{leZ}
+use lib.IntN.{ℤ, pos}
 use Rattle.word.specs.Masks.{bit, setBit, clearBit}
-use Rattle.word.specs.TwosComplement.{eqZ}
+use Rattle.accumulator.specs.declared.Counted.{Counted}
+use Rattle.accumulator.specs.Count.{up, down}
+use Rattle.accumulator.specs.Causes.{highPreset, underflow, overflow}
 use Rattle.counter.specs.declared.state.Counter.{Counter}
-use Rattle.counter.specs.declared.state.Counted.{Counted}
 use Rattle.counter.specs.declared.state.Sampled.{Sampled}
 use Rattle.counter.specs.declared.state.Count.{Count}
 use Rattle.counter.specs.declared.state.Count.the-variants.{None, Up, Down}
-use Rattle.counter.specs.Parts.{CE, DIR, UF, OF, MD, LOADED, lowPreset, highPreset, underflow, overflow, withAcc, withFlags, withLevels, flag}
+use Rattle.counter.specs.Parts.{CE, DIR, UF, OF, MD, LOADED, withAcc, withFlags, withLevels, flag}
 use Rattle.counter.specs.Parts.{upOnly, mode}
 use Rattle.counter.specs.Interrupts.{raise}
 
@@ -50,21 +50,7 @@ direction m old new =
     cond (ltb m 2) (aloneUp old new)
     (cond (ltb m 4) (byLevel old new) (cond (ltb m 6) (byInput old new) (cond (ltb m 8) (byPhase old new) None)))
 
--- ---- one count
-
-abbrev pub counted : ℤ → ℕ → Counted
-counted acc cause = record { acc = acc; cause = cause }
-
--- ACC >= OVF: ACC becomes UNF (0 in modes 0, 1), cause 4. Else ACC + 1; if that equals HIP, cause 2, and in modes 0, 1 ACC becomes 0.
-unfoldable pub up : Bool → ℤ → ℤ → ℤ → ℤ → Counted
-up single acc hip ovf unf =
-    cond (leZ ovf acc) (cond single (counted (pos 0) overflow) (counted unf overflow))
-    (cond (eqZ (acc +ℤ pos 1) hip) (cond single (counted (pos 0) highPreset) (counted (acc +ℤ pos 1) highPreset)) (counted (acc +ℤ pos 1) 0))
-
--- ACC <= UNF: ACC becomes OVF, cause 3. Else ACC - 1; if that equals LOP, cause 1.
-unfoldable pub down : ℤ → ℤ → ℤ → ℤ → Counted
-down acc lop ovf unf =
-    cond (leZ acc unf) (counted ovf underflow) (cond (eqZ (acc -ℤ pos 1) lop) (counted (acc -ℤ pos 1) lowPreset) (counted (acc -ℤ pos 1) 0))
+-- ---- one count: ACC and the cause are those of crate `accumulator`
 
 -- up sets DIR; OF with cause 4, MD with cause 2 in modes 0, 1
 unfoldable pub upFlags : Bool → ℕ → ℕ → ℕ

@@ -9,10 +9,11 @@ use mir.Syntax.{w16, w32}
 use mir.Val.{SFits}
 use Rattle.word.specs.Masks.{bit}
 use Rattle.word.specs.TwosComplement.{eqZ}
+use Rattle.accumulator.specs.Causes.{causeCount}
 use Rattle.counter.specs.declared.state.Settings.{Settings}
 use Rattle.counter.specs.declared.state.Counter.{Counter}
 use Rattle.counter.specs.Desk.{first, second, queuedOf}
-use Rattle.counter.specs.Parts.{ED, LOADED, causeCount}
+use Rattle.counter.specs.Parts.{ED, LOADED}
 use Rattle.counter.specs.Loading.{ruleCount, firstBroken}
 
 -- every setting is 0

@@ -27,7 +27,7 @@ fn counted_up(c: Counter) -> Sampled
 {
     let a = c.active;
     let single = rules::up_only(rules::mode(c));
-    let r = counting::up(single, c.acc, a.hip, a.ovf, a.unf);
+    let r = accumulator::up(single, c.acc, a.hip, a.ovf, a.unf);
     Sampled {
         acc: r.acc,
         flags: counting::up_flags(single, r.cause, c.flags),
@@ -39,7 +39,7 @@ fn counted_down(c: Counter) -> Sampled
     ensures { λ r. ⌜ r ≡ countedDown c ⌝ }
 {
     let a = c.active;
-    let r = counting::down(c.acc, a.lop, a.ovf, a.unf);
+    let r = accumulator::down(c.acc, a.lop, a.ovf, a.unf);
     Sampled {
         acc: r.acc,
         flags: counting::down_flags(r.cause, c.flags),

@@ -35,12 +35,6 @@ pub enum Count {
     Down,
 }
 
-// ACC after a count, and the cause that the count raises, 0 for none.
-pub struct Counted {
-    pub acc: i32,
-    pub cause: u8,
-}
-
 // What an input sample makes of ACC and of the flags, and the cause that it raises, 0 for none.
 pub struct Sampled {
     pub acc: i32,

@@ -1,4 +1,4 @@
--- `counter::counting::up` meets its contract: each test is the definition's, in its order, and a count from below OVF fits.
+-- `accumulator::up` meets its contract: each test is the definition's, in its order, and a count from below OVF fits.
 use mathlib.Core.Path.{_≡_}
 use mathlib.Core.Bool.{true, false}
 use lib.IntN.{ℤ, pos, _+ℤ_}
@@ -8,10 +8,10 @@ use mir.Val.{SFits}
 use Rattle.word.specs.TwosComplement.{signed, unsigned, eqZ}
 use Rattle.word.proofs.TwosComplement.{signed-unsigned}
 use Rattle.word.proofs.Branches.{le-signed, eq-signed, ne-signed}
-use Rattle.counter.specs.Sample.{up}
-use Rattle.counter.proofs.Limits.{up-fits}
-use Rattle.counter.proofs.counting.up.Statement.{statement}
-use Rattle.counter.proofs.counting.up.Tie as tie
+use Rattle.accumulator.specs.Count.{up}
+use Rattle.accumulator.proofs.Limits.{up-fits}
+use Rattle.accumulator.proofs.up.Statement.{statement}
+use Rattle.accumulator.proofs.up.Tie as tie
 
 below : (c : tie.Else1) → leZ (c .before .args .ovf) (c .before .args .acc) ≡ false
 below c = le-signed (c .before .fits .ovf) (c .before .fits .acc) (c .if1 .left)

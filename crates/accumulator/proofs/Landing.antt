@@ -1,20 +1,18 @@
--- Counting at the limits: OF and UF come by the count past the limit alone, a preset by the count that lands on it alone, and a
--- rollover raises no preset. The cause is one of three by two tests.
+-- Counting at the limits: overflow and underflow come by the count past the limit alone, a preset by the count that lands on it alone, and
+-- a rollover raises no preset. The cause is one of three by two tests.
 use mathlib.Core.Path.{_≡_, refl, sym, ap, _∙_}
 use mathlib.Core.Logic.{_↔_}
-use mathlib.Core.Bool.{Bool, true, false, cond, _&&_, true≢false, false≢true}
+use mathlib.Core.Bool.{Bool, true, false, cond, true≢false, false≢true}
 use Prim.Native.Nat.{ℕ}
 use borrow.Author.Tests.{eqb-false}
-use lib.Dec.{eqb, lit<}
+use lib.Dec.{eqb}
 use lib.IntN.{ℤ, pos, _+ℤ_, _-ℤ_}
 use lib.Signed.{leZ}
-use Rattle.word.specs.Masks.{bit, setBit, clearBit}
 use Rattle.word.specs.TwosComplement.{eqZ}
-use Rattle.word.proofs.Masks.{bit-setBit, bit-clearBit}
 use Rattle.word.proofs.Branches.{eqZ-refl, eqZ-true}
-use Rattle.counter.specs.declared.state.Counted.{Counted}
-use Rattle.counter.specs.Parts.{lowPreset, highPreset, underflow, overflow, DIR, UF, OF, MD}
-use Rattle.counter.specs.Sample.{up, down, upFlags, downFlags}
+use Rattle.accumulator.specs.declared.Counted.{Counted}
+use Rattle.accumulator.specs.Causes.{lowPreset, highPreset, underflow, overflow}
+use Rattle.accumulator.specs.Count.{up, down}
 
 -- ---- one of three causes
 
@@ -60,16 +58,6 @@ module _ (single : Bool) (acc hip ovf unf : ℤ) where
   pub up-preset : (up single acc hip ovf unf .cause ≡ highPreset) ↔ ((leZ ovf acc ≡ false) × (acc +ℤ pos 1 ≡ hip))
   up-preset = rw up-cause (then (meets overflow highPreset refl refl refl (leZ ovf acc) (eqZ (acc +ℤ pos 1) hip)) (lands (acc +ℤ pos 1) hip))
 
--- OF is set by overflow alone, MD by the high preset in modes 0 and 1 alone
-pub upFlags-of : (single : Bool) (cause w : ℕ) → bit (upFlags single cause w) OF ≡ cond (eqb cause overflow) true (bit w OF)
-unfolding upFlags
-upFlags-of single cause w = go (eqb cause overflow) (eqb cause highPreset && single)
-  where
-    go : (a b : Bool) → bit (cond a (setBit (setBit w DIR) OF) (cond b (setBit (setBit w DIR) MD) (setBit w DIR))) OF ≡ cond a true (bit w OF)
-    go true b = bit-setBit (setBit w DIR) OF OF
-    go false true = bit-setBit (setBit w DIR) MD OF ∙ bit-setBit w DIR OF
-    go false false = bit-setBit w DIR OF
-
 -- ---- down
 
 module _ (acc lop ovf unf : ℤ) where
@@ -84,12 +72,3 @@ module _ (acc lop ovf unf : ℤ) where
   -- the low preset exactly by the count that lands on it; a rollover raises none
   pub down-preset : (down acc lop ovf unf .cause ≡ lowPreset) ↔ ((leZ acc unf ≡ false) × (acc -ℤ pos 1 ≡ lop))
   down-preset = rw down-cause (then (meets underflow lowPreset refl refl refl (leZ acc unf) (eqZ (acc -ℤ pos 1) lop)) (lands (acc -ℤ pos 1) lop))
-
--- UF is set by underflow alone
-pub downFlags-uf : (cause w : ℕ) → bit (downFlags cause w) UF ≡ cond (eqb cause underflow) true (bit w UF)
-unfolding downFlags
-downFlags-uf cause w = go (eqb cause underflow)
-  where
-    go : (a : Bool) → bit (cond a (setBit (clearBit 32 w DIR) UF) (clearBit 32 w DIR)) UF ≡ cond a true (bit w UF)
-    go true = bit-setBit (clearBit 32 w DIR) UF UF
-    go false = bit-clearBit 32 w DIR UF (lit< tt) (lit< tt)

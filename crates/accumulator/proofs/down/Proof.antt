@@ -1,4 +1,4 @@
--- `counter::counting::down` meets its contract: each test is the definition's, in its order, and a count from above UNF fits.
+-- `accumulator::down` meets its contract: each test is the definition's, in its order, and a count from above UNF fits.
 use mathlib.Core.Path.{_≡_}
 use mathlib.Core.Bool.{true, false}
 use lib.IntN.{pos, _-ℤ_}
@@ -8,10 +8,10 @@ use mir.Val.{SFits}
 use Rattle.word.specs.TwosComplement.{signed, unsigned, eqZ}
 use Rattle.word.proofs.TwosComplement.{signed-unsigned}
 use Rattle.word.proofs.Branches.{le-signed, eq-signed, ne-signed}
-use Rattle.counter.specs.Sample.{down}
-use Rattle.counter.proofs.Limits.{down-fits}
-use Rattle.counter.proofs.counting.down.Statement.{statement}
-use Rattle.counter.proofs.counting.down.Tie as tie
+use Rattle.accumulator.specs.Count.{down}
+use Rattle.accumulator.proofs.Limits.{down-fits}
+use Rattle.accumulator.proofs.down.Statement.{statement}
+use Rattle.accumulator.proofs.down.Tie as tie
 
 above : (c : tie.Else1) → leZ (c .before .args .acc) (c .before .args .unf) ≡ false
 above c = le-signed (c .before .fits .acc) (c .before .fits .unf) (c .if1 .left)

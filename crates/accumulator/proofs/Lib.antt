@@ -1,0 +1,3 @@
+-- The laws of one count.
+pub mod Limits
+pub mod Landing

@@ -1,0 +1,3 @@
+-- Document 01's count of the accumulator.
+pub mod Causes
+pub mod Count
