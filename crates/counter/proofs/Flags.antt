@@ -109,7 +109,7 @@ kept-finished Nothing w = kept-refl w
 
 -- ---- what a count sets
 
--- OF is set by overflow alone, MD by the high preset in modes 0 and 1 alone
+-- OF is set by overflow alone
 pub upFlags-of : (single : Bool) (cause w : ℕ) → bit (upFlags single cause w) OF ≡ cond (eqb cause overflow) true (bit w OF)
 unfolding upFlags
 upFlags-of single cause w = go (eqb cause overflow) (eqb cause highPreset && single)

@@ -6,6 +6,7 @@ use mathlib.Core.List.{List}
 use Prim.Native.Nat.{ℕ, _+_, _*_, _≤_}
 use native.Mathlib.Nat.{div-le-self, mul-le-mul}
 use native.Mathlib.Omega.{arith}
+use Rattle.snapshot.specs.Widths.{eventSize}
 use Rattle.image.specs.declared.edition.Edition.{Edition}
 use Rattle.image.specs.Editions.{system, maxSize}
 use Rattle.image.specs.Header.{headerSize, maxEvents, eventCount, spacingOf, snapshotCount, snapshotOffset, systemOf}
@@ -40,7 +41,7 @@ module _ (c : tie.After-number2) where
       omega (arith, c .number2 .ensures, h .offsets .counted, h .limits .few, div-le-self (eventCount image) (spacingOf image)) in
       mul-le-mul few (sized .size .ensures .1)
 
-  table-place : c .before .number .result ≤ headerSize + 12 * maxEvents
+  table-place : c .before .number .result ≤ headerSize + eventSize * maxEvents
   table-place = let h = headed known in omega (arith, c .before .number .ensures, h .offsets .table, h .limits .few)
 
 edition-requires : tie.Need-edition-requires
