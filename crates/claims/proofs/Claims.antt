@@ -32,7 +32,7 @@ use Rattle.snapshot.specs.EventBytes.{legalEvent, stepEvent}
 use Rattle.snapshot.specs.Split.{splitState, HoldsIfGood}
 use Rattle.refusal.specs.declared.Refusal.{Refusal}
 use Rattle.refusal.specs.declared.Verdict.{Verdict}
-use Rattle.refusal.specs.Refusals.{Answer, refused, given, numberOf, verdictOf, statusOf, Placed, changedIf}
+use Rattle.refusal.specs.Refusals.{Answer, refusedIn, given, numberOf, traceOf, verdictOf, statusOf, Placed, changedIf}
 use Rattle.replay.specs.System.{System, Laws}
 use Rattle.replay.specs.Image.{Shape, snapshots, snapshotPlace, firstSnapshot, eventPlace, changed, Fitting}
 use Rattle.replay.specs.Events.{firstIllegal}
@@ -128,9 +128,12 @@ pub scan-legal : {width : ℕ} (S : System width) (bytes : List ℕ) (at i n k :
     → i ≤ k → k < firstIllegal S bytes at i n → S .legal (part bytes (at + k * width) width) ≡ true
 scan-legal = replay.Scan.scan-legal
 
--- refusals have the numbers 1 to 9
-pub number-range : (r : Refusal) → (1 ≤ numberOf r) × (numberOf r ≤ 9)
+-- refusals have the numbers 1 to 12, and name the first of two traces, the second or none
+pub number-range : (r : Refusal) → (1 ≤ numberOf r) × (numberOf r ≤ 12)
 number-range = refusals.number-range
+
+pub trace-range : (r : Refusal) → traceOf r ≤ 2
+trace-range = refusals.trace-range
 
 -- every place of a refusal by replay or mending fits its half of the status
 pub replay-placed : (image : List ℕ) → Placed (replayVerdict image)
@@ -139,12 +142,16 @@ replay-placed = images.Bounds.replay-placed
 pub mend-placed : (image : List ℕ) (f : ℕ) (patch : List ℕ) → Placed (mendAnswer image f patch)
 mend-placed = mending.Bounds.mend-placed
 
--- so the low half of a status is the refusal's number, and the high half its place
-pub status-number : (number place : ℕ) → number < 2 ^ 32 → statusOf {A = Unit} (refused number place) % 2 ^ 32 ≡ number
-status-number = hsc.Halves.status-number
+-- so bits 0 to 15 of a status are the refusal's number, bits 16 to 31 the trace that it names, and bits 32 to 63 its place
+pub status-number : (number trace place : ℕ) → number < 2 ^ 16 → trace < 2 ^ 16 → statusOf {A = Unit} (refusedIn number trace place) % 2 ^ 16 ≡ number
+status-number = hsc.Status.status-number
 
-pub status-place : (number place : ℕ) → number < 2 ^ 32 → statusOf {A = Unit} (refused number place) / 2 ^ 32 ≡ place
-status-place = hsc.Halves.status-place
+pub status-trace : (number trace place : ℕ) → number < 2 ^ 16 → trace < 2 ^ 16
+    → statusOf {A = Unit} (refusedIn number trace place) / 2 ^ 16 % 2 ^ 16 ≡ trace
+status-trace = hsc.Status.status-trace
+
+pub status-place : (number trace place : ℕ) → number < 2 ^ 16 → trace < 2 ^ 16 → statusOf {A = Unit} (refusedIn number trace place) / 2 ^ 32 ≡ place
+status-place = hsc.Status.status-place
 
 -- status 0 says that nothing is refused
 pub status-done : (v : Verdict) → statusOf (verdictOf v) ≡ 0 → verdictOf v ≡ given tt

@@ -1,6 +1,7 @@
 -- Laws of the definitions, and laws for the proofs of the calls.
-pub mod Halves
+pub mod Status
 mod Widened
 mod Whole
 mod Rows
+mod Pair
 mod Done

@@ -5,15 +5,18 @@ use mathlib.Core.Bool.{Bool, true, false, cond, not, _||_, false≢true}
 use mathlib.Core.List.{List}
 use Prim.Native.Nat.{ℕ, _≤_}
 use native.Mathlib.Omega.{arith}
+use Rattle.refusal.specs.declared.Trace.{Trace}
+use Rattle.refusal.specs.declared.Trace.the-variants.{First, Second}
 use Rattle.refusal.specs.declared.Refusal.{Refusal}
-use Rattle.refusal.specs.declared.Refusal.the-variants.{Short, Limits, Offsets, Length, Event, Snapshot, Patch, PatchEvent, Size}
+use Rattle.refusal.specs.declared.Refusal.the-variants.{Short, Limits, Offsets, Length, Event, Snapshot, Patch, PatchEvent, Size, TraceEvent, Row}
 use Rattle.refusal.specs.declared.Verdict.{Verdict}
 use Rattle.refusal.specs.declared.Verdict.the-variants.{Refused, Accepted}
-use Rattle.refusal.specs.Refusals.{Answer, refused, given, numberOf, refusal, verdictOf, statusOf, Placed, _andThen_, changedIf}
+use Rattle.refusal.specs.Refusals.{Answer, refusedIn, refused, given, traceNumber, numberOf, traceOf, refusal, verdictOf, statusOf, Placed}
+use Rattle.refusal.specs.Refusals.{inTrace, _andThen_, changedIf}
 
 -- ---- tests in a row
 
-pub refused-given : {A : Type 0} {n p : ℕ} {x : A} → refused n p ≡ given x → ⊥
+pub refused-given : {A : Type 0} {n t p : ℕ} {x : A} → refusedIn n t p ≡ given x → ⊥
 refused-given e = let z : _≡_ {A = ℕ} 0 1 = cc in omega arith
 
 pub passed : {A : Type 0} {x : A} (t : Bool) (n p : ℕ) (rest : Answer A) → cond t (refused n p) rest ≡ given x → (t ≡ false) × (rest ≡ given x)
@@ -41,8 +44,13 @@ none-of false b e = (refl, e)
 -- ---- one check after another
 
 pub both-passed : {A : Type 0} {x : A} (a : Answer Unit) (b : Answer A) → (a andThen b) ≡ given x → (a ≡ given tt) × (b ≡ given x)
-both-passed (refused n p) b e = absurd (refused-given e)
+both-passed (refusedIn n t p) b e = absurd (refused-given e)
 both-passed (given tt) b e = (refl, e)
+
+-- an answer of one of two traces that refuses nothing
+pub in-passed : {A : Type 0} {x : A} (t : Trace) (a : Answer A) → inTrace t a ≡ given x → a ≡ given x
+in-passed t (refusedIn n s p) e = absurd (refused-given e)
+in-passed t (given y) e = e
 
 -- ---- a verdict that the code gave
 
@@ -72,7 +80,7 @@ module _ (v : Verdict) (a : Answer Unit) (answered : verdictOf v ≡ a) where
 
 -- ---- the status that C is given
 
-pub number-range : (r : Refusal) → (1 ≤ numberOf r) × (numberOf r ≤ 9)
+pub number-range : (r : Refusal) → (1 ≤ numberOf r) × (numberOf r ≤ 12)
 number-range Short = (omega arith, omega arith)
 number-range Limits = (omega arith, omega arith)
 number-range Offsets = (omega arith, omega arith)
@@ -82,6 +90,25 @@ number-range (Snapshot j) = (omega arith, omega arith)
 number-range Patch = (omega arith, omega arith)
 number-range (PatchEvent i) = (omega arith, omega arith)
 number-range Size = (omega arith, omega arith)
+number-range (TraceEvent t i) = (omega arith, omega arith)
+number-range Row = (omega arith, omega arith)
+
+pub trace-few : (t : Trace) → traceNumber t ≤ 2
+trace-few First = omega arith
+trace-few Second = omega arith
+
+pub trace-range : (r : Refusal) → traceOf r ≤ 2
+trace-range Short = omega arith
+trace-range Limits = omega arith
+trace-range Offsets = omega arith
+trace-range Length = omega arith
+trace-range (Event i) = omega arith
+trace-range (Snapshot j) = omega arith
+trace-range Patch = omega arith
+trace-range (PatchEvent i) = omega arith
+trace-range Size = omega arith
+trace-range (TraceEvent t i) = trace-few t
+trace-range Row = omega arith
 
 -- status 0 is given where nothing is refused, and only there
 pub status-done : (v : Verdict) → statusOf (verdictOf v) ≡ 0 → verdictOf v ≡ given tt
@@ -89,7 +116,7 @@ status-done (Refused r) e = absurd (omega (arith, number-range r .0))
 status-done Accepted e = refl
 
 pub status-kept : {A : Type 0} (a : Answer Unit) (old new : List A) → (statusOf a ≡ 0 → ⊥) → old ≡ changedIf a old new
-status-kept (refused n p) old new h = refl
+status-kept (refusedIn n t p) old new h = refl
 status-kept (given tt) old new h = absurd (h refl)
 
 -- ---- a place that fits 32 bits
@@ -99,6 +126,10 @@ pub placed-test : {A : Type 0} (t : Bool) (n : ℕ) (rest : Answer A) → (t ≡
 placed-test true n rest h = omega arith
 placed-test false n rest h = h refl
 
+pub placed-in : {A : Type 0} (t : Trace) (a : Answer A) → Placed a → Placed (inTrace t a)
+placed-in t (refusedIn n s p) h = h
+placed-in t (given x) h = h
+
 pub placed-then : {A : Type 0} (a : Answer Unit) (b : Answer A) → Placed a → (a ≡ given tt → Placed b) → Placed (a andThen b)
-placed-then (refused n p) b h k = h
+placed-then (refusedIn n t p) b h k = h
 placed-then (given tt) b h k = k refl

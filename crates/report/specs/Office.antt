@@ -2,7 +2,7 @@
 use mathlib.Core.List.{List}
 use Prim.Native.Nat.{ℕ}
 use Rattle.counter.specs.declared.state.Counter.{Counter}
-use Rattle.refusal.specs.Refusals.{Answer, refused, given, _andThen_}
+use Rattle.refusal.specs.Refusals.{Answer, refusedIn, given, _andThen_}
 use Rattle.image.specs.Header.{eventCount, snapshotCount}
 use Rattle.image.specs.Verdicts.{replayVerdict}
 use Rattle.image_replay.specs.Replays.{finalState}
@@ -10,7 +10,7 @@ use Rattle.report.specs.Line.{replayLine, refusalLine}
 
 -- a refusal's line, or that of the counts and the final state
 abbrev pub lineOf : ℕ → ℕ → Answer Counter → List ℕ
-lineOf events snapshots (refused number place) = refusalLine number place
+lineOf events snapshots (refusedIn number trace place) = refusalLine number place
 lineOf events snapshots (given c) = replayLine events snapshots (c .acc) (c .out) (c .er) (c .flags)
 
 abbrev pub officeLine : List ℕ → List ℕ

@@ -1,18 +1,8 @@
 -- `hsc::mending::write_span` meets its contract: two writes cover two numbers.
 use borrow.Author.Needs.{needs}
-use mathlib.Core.Path.{_≡_, refl}
-use mathlib.Core.List.{List, [], _∷_}
-use Prim.Native.Nat.{ℕ}
-use native.Mathlib.Omega.{arith}
-use lib.ListN.{length, set}
+use Rattle.hsc.proofs.Pair.{both-set}
 use Rattle.hsc.proofs.mending.write_span.Statement.{statement}
 use Rattle.hsc.proofs.mending.write_span.Tie as tie
-
-both-set : (l : List ℕ) (a b : ℕ) → length l ≡ 2 → set (set l 0 a) 1 b ≡ a ∷ b ∷ []
-both-set [] a b e = absurd (omega arith)
-both-set (x ∷ []) a b e = absurd (omega arith)
-both-set (x ∷ y ∷ []) a b e = refl
-both-set (x ∷ y ∷ z ∷ l) a b e = absurd (omega arith)
 
 slice-write-span : tie.Need-slice-write-span
 slice-write-span c = search needs
