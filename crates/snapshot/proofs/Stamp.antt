@@ -19,7 +19,7 @@ same-numbers : (d e : List ℕ) → take 8 d ≡ take 8 e → numbersAt readLayo
 unfolding part total
 same-numbers d e h = sym (unpack-here readLayout d 0) ∙ ap (unpack readLayout) h ∙ unpack-here readLayout e 0
 
-same-event : (d e : List ℕ) → take 8 d ≡ take 8 e → eventOf d ≡ eventOf e
+pub same-event : (d e : List ℕ) → take 8 d ≡ take 8 e → eventOf d ≡ eventOf e
 unfolding eventOf
 same-event d e h = ap eventRow (same-numbers d e h)
 
