@@ -28,7 +28,7 @@ fn write_number(s: &mut [u8], at: usize, width: usize, v: u32)
     }
 }
 
-// The number from byte at. Two and four bytes are read without a loop, so that the compiler reads them at once.
+// The number from byte at. Two, four and eight bytes are read without a loop, so that the compiler reads them at once.
 pub fn read_u16(s: &[u8], at: usize) -> u16
     requires { ⌜ at + 2 ≤ length (now s) ⌝ }
     ensures { λ r. ⌜ r ≡ numberAt (now (s .entry)) at 2 ⌝ }
@@ -41,6 +41,13 @@ pub fn read_u32(s: &[u8], at: usize) -> u32
     ensures { λ r. ⌜ r ≡ numberAt (now (s .entry)) at 4 ⌝ }
 {
     (read_u16(s, at) as u32) + 65536 * (read_u16(s, at + 2) as u32)
+}
+
+pub fn read_u64(s: &[u8], at: usize) -> u64
+    requires { ⌜ at + 8 ≤ length (now s) ⌝ }
+    ensures { λ r. ⌜ r ≡ numberAt (now (s .entry)) at 8 ⌝ }
+{
+    (read_u32(s, at) as u64) + 4294967296 * (read_u32(s, at + 4) as u64)
 }
 
 pub fn read_i16(s: &[u8], at: usize) -> i16
