@@ -29,7 +29,7 @@ pub const SPACING: usize = 16;
 
 pub const SIXTH: usize = 20;
 
-const MAX_EVENTS: usize = 1048576;
+pub const MAX_EVENTS: usize = 1048576;
 
 const MAX_SPACING: usize = 4096;
 
