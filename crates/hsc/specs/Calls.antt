@@ -11,9 +11,11 @@ use Rattle.snapshot.specs.Snapshots.{encode, decode}
 use Rattle.snapshot.specs.FormedBytes.{formed}
 use Rattle.snapshot.specs.EventBytes.{legalEvent, stepEvent}
 use Rattle.image_mend.specs.declared.Span.{Span}
-use Rattle.refusal.specs.Refusals.{Answer, refused, given, statusOf, after, changedIf}
+use Rattle.refusal.specs.Refusals.{Answer, refused, given, traceNumber, statusOf, after, changedIf}
 use Rattle.image.specs.Verdicts.{replayVerdict}
 use Rattle.image_mend.specs.Mends.{mendAnswer}
+use Rattle.compare.specs.Comparing.{compareAnswer}
+use Rattle.compare.specs.Rest.{restTrace, restPlace, restOf}
 use Rattle.hsc.specs.Fields.{fieldsOf}
 
 -- ---- event check: 9, else 1 for yes or 0 for no
@@ -63,3 +65,22 @@ mendStatus image first patch = statusOf (mendAnswer image first patch)
 -- s + 1 and the stop
 abbrev pub mendSpan : List ℕ → ℕ → List ℕ → List ℕ → List ℕ
 mendSpan image first patch span = after (mendAnswer image first patch) span (λ (s : Span). s .first ∷ s .stop ∷ [])
+
+-- ---- comparing two traces (document 02, request 1): the row after is `compareRow`
+
+abbrev pub compareStatus : List ℕ → List ℕ → List ℕ → ℕ
+compareStatus first second row = statusOf (compareAnswer first second (length row))
+
+-- how many places differ
+abbrev pub compareCount : List ℕ → List ℕ → List ℕ → ℕ → ℕ
+compareCount first second row count = after (compareAnswer first second (length row)) count (λ n. n)
+
+-- ---- the rest of the longer trace (document 02, request 1)
+
+-- 1 for the first trace, 2 for the second
+abbrev pub restNumber : List ℕ → List ℕ → ℕ
+restNumber first second = traceNumber (restTrace first second)
+
+-- the place of its first byte in that trace, and its length
+abbrev pub restPart : List ℕ → List ℕ → List ℕ
+restPart first second = restPlace first second ∷ length (restOf first second) ∷ []

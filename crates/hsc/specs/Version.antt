@@ -5,10 +5,10 @@ abbrev pub major : ℕ
 major = 0
 
 abbrev pub minor : ℕ
-minor = 1
+minor = 2
 
 abbrev pub patch : ℕ
-patch = 1
+patch = 0
 
 -- one number that grows with every version
 abbrev pub version : ℕ

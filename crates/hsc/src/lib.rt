@@ -1,5 +1,6 @@
 // The C surface: what the depot's program calls, with numbers and lent buffers. Document 01, "Trace image", has the refusals.
 pub mod checking;
+pub mod comparing;
 mod filling;
 pub mod mending;
 pub mod reading;
