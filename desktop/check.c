@@ -36,7 +36,7 @@ static enum outcome check(const struct image *image, bool named)
         return DONE;
     }
     print_differences(image, &comparison);
-    return NOT_TRUE;
+    return DIFFERENT;
 }
 
 static enum outcome check_file(const char *path, bool named)
@@ -54,7 +54,7 @@ static enum outcome check_file(const char *path, bool named)
 /* A failure goes before a refusal, and a refusal before a table that is not true. */
 static enum outcome worse(enum outcome one, enum outcome other)
 {
-    static const int RANKS[] = {[DONE] = 0, [NOT_TRUE] = 1, [REFUSED] = 2, [FAILED] = 3};
+    static const int RANKS[] = {[DONE] = 0, [DIFFERENT] = 1, [REFUSED] = 2, [FAILED] = 3};
 
     _Static_assert(sizeof RANKS / sizeof RANKS[0] == OUTCOME_COUNT, "a rank for every outcome");
     return RANKS[one] > RANKS[other] ? one : other;

@@ -11,6 +11,8 @@ const struct command COMMANDS[] = {
     {"show", "IMAGE J", "print snapshot J in words", 0, 2, 2, command_show},
     {"state", "IMAGE [EVENT]", "print the state before EVENT, or after all events, in words", 0, 1, 2, command_state},
     {"check", "IMAGE...", "tell whether tables are true, or what differs first", 0, 1, INT_MAX, command_check},
+    {"compare", "IMAGE IMAGE", "tell where the events of two images differ", TAKES(OPTION_ALL) | TAKES(OPTION_EVENTS),
+     2, 2, command_compare},
     {"replay", "IMAGE", "write every snapshot anew and print the final state",
      TAKES(OPTION_DRY_RUN) | TAKES(OPTION_OUT), 1, 1, command_replay},
     {"mend", "IMAGE FIRST PATCH", "put PATCH over the events from FIRST and mend the table",

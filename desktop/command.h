@@ -50,6 +50,9 @@ enum outcome command_build(const struct request *request);
 /* IMAGE...: whether each table is true. */
 enum outcome command_check(const struct request *request);
 
+/* IMAGE IMAGE: the places where their events differ. */
+enum outcome command_compare(const struct request *request);
+
 /* [COMMAND]: what the commands, or this one, take and do. */
 enum outcome command_help(const struct request *request);
 

@@ -4,7 +4,11 @@
 
 #include "hsc.h"
 
+#include <stddef.h>
 #include <stdint.h>
+
+/* The bytes of the most events that an image has. With one more, the library refuses them as a patch and as a trace. */
+#define EVENTS_LONGEST ((size_t)HSC_MAX_EVENTS * HSC_EVENT_SIZE)
 
 uint8_t event_kind(const uint8_t event[HSC_EVENT_SIZE]);
 

@@ -37,7 +37,7 @@ void print_usage(FILE *stream)
 {
     fprintf(stream, "usage: hsc COMMAND [OPTION]... [OPERAND]..., or hsc --help, hsc --version\n");
     for (const struct command *command = COMMANDS; command->name != NULL; command++)
-        fprintf(stream, "  hsc %-6s %-20s  %s\n", command->name, command->operands, command->purpose);
+        fprintf(stream, "  hsc %-7s %-20s  %s\n", command->name, command->operands, command->purpose);
 }
 
 void print_help(void)
@@ -46,7 +46,8 @@ void print_help(void)
     printf("IMAGE is a trace image, PATCH a file of 12-byte events, TEXT one of events in words, EVENTS either;\n"
            "each may be -, standard input. FIRST, FROM, EVENT and J count from 0.\n"
            "hsc help COMMAND tells a command's options. Operands that begin with a dash stand after --.\n"
-           "Exit status: 0 done, 1 refused, 2 wrong usage or system error, 3 (check) a table that is not true.\n");
+           "Exit status: 0 done, 1 refused, 2 wrong usage or system error, 3 (check) a table that is not true\n"
+           "or (compare) traces that differ.\n");
 }
 
 enum outcome command_help(const struct request *request)

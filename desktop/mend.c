@@ -1,6 +1,7 @@
 /* hsc mend: a patch copied over some events, and the table mended after them. */
 #include "command.h"
 #include "edit.h"
+#include "event.h"
 #include "file.h"
 #include "hsc.h"
 #include "number.h"
@@ -11,15 +12,13 @@
 #include <stdio.h>
 #include <stdlib.h>
 
-/* The bytes of the longest legal patch. With one more, the library refuses the patch for any image. */
-#define LONGEST ((size_t)HSC_MAX_EVENTS * HSC_EVENT_SIZE)
-
 /* Tells which half of refusal 7 it is. */
 static enum outcome refuse_patch(const struct image *image, uint64_t first, const struct contents *patch)
 {
     fprintf(stderr, "hsc: %s: refused %d at 0: ", patch->path, HSC_REFUSED_PATCH);
-    if (patch->size > LONGEST)
-        fprintf(stderr, "the patch has more than %zu bytes, which are the events of the largest image\n", LONGEST);
+    if (patch->size > EVENTS_LONGEST)
+        fprintf(stderr, "the patch has more than %zu bytes, which are the events of the largest image\n",
+                EVENTS_LONGEST);
     else if (patch->size % HSC_EVENT_SIZE != 0)
         fprintf(stderr, "the patch has %zu bytes, which is not a multiple of %d\n", patch->size, HSC_EVENT_SIZE);
     else
@@ -111,7 +110,7 @@ enum outcome command_mend(const struct request *request)
         return outcome;
     if (file_is_standard(request->operands[0]) && file_is_standard(request->operands[2]))
         return tell_failure("standard input", "cannot be both IMAGE and PATCH");
-    outcome = file_load(&patch, request->operands[2], LONGEST + 1);
+    outcome = file_load(&patch, request->operands[2], EVENTS_LONGEST + 1);
     if (outcome != DONE)
         return outcome;
     outcome = mend_with(request, first, &patch);

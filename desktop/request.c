@@ -5,9 +5,11 @@
 #include <string.h>
 
 const struct option_text OPTION_TEXTS[] = {
+    [OPTION_ALL] = {"--all", NULL, "print every difference"},
     [OPTION_BARE] = {"--bare", NULL, "leave the places out, so that lines can be moved"},
     [OPTION_CHECK] = {"--check", NULL, "compare the whole table first; one that is not true is refused"},
     [OPTION_DRY_RUN] = {"--dry-run", NULL, "say what would happen and write nothing"},
+    [OPTION_EVENTS] = {"--events", NULL, "the files are bare events of 12 bytes, without header and table"},
     [OPTION_GAPS] = {"--gaps", NULL, "print every gap"},
     [OPTION_HELP] = {"--help", NULL, "print this text"},
     [OPTION_OUT] = {"-o", "OUT", "write the file OUT and leave the image as it is"},

@@ -8,9 +8,11 @@
 
 /* The options; a command takes some of them, as its row in command.c says. */
 enum option {
+    OPTION_ALL,
     OPTION_BARE,
     OPTION_CHECK,
     OPTION_DRY_RUN,
+    OPTION_EVENTS,
     OPTION_GAPS,
     OPTION_HELP,
     OPTION_OUT,

@@ -48,7 +48,7 @@ static const char *refusal_words(uint32_t number)
     case HSC_REFUSED_LENGTH:
         return "the image's length is not what its header asks for";
     case HSC_REFUSED_EVENT:
-        return "this event of the image is not legal";
+        return "this event is not legal";
     case HSC_REFUSED_SNAPSHOT:
         return "this snapshot is not well formed";
     case HSC_REFUSED_PATCH:
@@ -56,7 +56,9 @@ static const char *refusal_words(uint32_t number)
     case HSC_REFUSED_PATCH_EVENT:
         return "this event of the patch is not legal";
     case HSC_REFUSED_SIZE:
-        return "a snapshot that is not 68 bytes, or an event that is not 12";
+        return "not a row of 12-byte events, more than 1048576 of them, or a snapshot that is not 68 bytes";
+    case HSC_REFUSED_ROW:
+        return "the row has no room for all differences";
     default:
         return "a refusal that this program does not know";
     }

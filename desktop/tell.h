@@ -9,7 +9,7 @@ enum outcome {
     DONE = 0,
     REFUSED = 1,
     FAILED = 2,
-    NOT_TRUE = 3,
+    DIFFERENT = 3, /* an answer and no refusal: a table that is not true, or traces that differ */
     OUTCOME_COUNT = 4
 };
 

@@ -1,5 +1,5 @@
 /*
- * hsc.h: the trace of a high-speed counter, checked, stepped, replayed and mended.
+ * hsc.h: the trace of a high-speed counter, checked, stepped, replayed, mended and compared.
  *
  * The calls take numbers and lent buffers and keep nothing from one call to the next. All numbers in the buffers are
  * little-endian.
@@ -14,9 +14,9 @@
  *                        snapshots, where snapshot j is the state before event jK and snapshot 0 is fresh
  *
  * What is proved of each call takes this from the caller, and nothing more:
- *   - each pointer is valid for its length (or for the array that the prototype names) until the call returns,
+ *   - each pointer is valid for its length (or for what the prototype names) until the call returns,
  *   - no pointer is null, not even with length 0,
- *   - no two buffers lent to one call overlap.
+ *   - no buffer that a call may write overlaps another one lent to it; two traces, which are only read, may overlap.
  * What is in the buffers, and how long they are, is free: a call answers for all of it.
  */
 #ifndef HSC_H
@@ -29,8 +29,8 @@
  * The version of this header: in words, and as one number, major * 10000 + minor * 100 + patch. A program compares the
  * number with hsc_version() at its start, to see that header and archive belong together.
  */
-#define HSC_VERSION "0.1.1"
-#define HSC_VERSION_NUMBER 101
+#define HSC_VERSION "0.2.0"
+#define HSC_VERSION_NUMBER 200
 
 #define HSC_HEADER_SIZE 24
 #define HSC_EVENT_SIZE 12
@@ -53,8 +53,10 @@ enum hsc_refusal {
     HSC_REFUSED_SNAPSHOT = 6,    /* a snapshot that must be read is not well formed; place: its index */
     HSC_REFUSED_PATCH = 7,       /* patch length not a multiple of 12, or first + n > E; place 0 */
     HSC_REFUSED_PATCH_EVENT = 8, /* illegal event in the patch; place: the first such, in the patch */
-    HSC_REFUSED_SIZE = 9,        /* snapshot not 68 bytes or event not 12; place 0 */
-    HSC_REFUSAL_COUNT = 10
+    HSC_REFUSED_SIZE = 9,        /* snapshot not 68 bytes, event not 12, or a trace whose length is not a multiple of 12
+                                    or which has more than 1048576 events; place 0 */
+    HSC_REFUSED_ROW = 12,        /* the row has no room for all differences; place 0 */
+    HSC_REFUSAL_COUNT = 13       /* no call gives 10 or 11 */
 };
 
 /* An event's kind, its byte 0. */
@@ -187,7 +189,13 @@ extern "C" {
 /* The refusal's number in a status: an enum hsc_refusal, HSC_DONE where the call was done. */
 static inline uint32_t hsc_number(uint64_t status)
 {
-    return (uint32_t)(status & UINT32_MAX);
+    return (uint32_t)(status & UINT16_MAX);
+}
+
+/* The trace that the refusal names, 1 the first or 2 the second; 0 where it names none. */
+static inline uint32_t hsc_trace(uint64_t status)
+{
+    return (uint32_t)(status >> 16 & UINT16_MAX);
 }
 
 /* The refusal's place in a status, counted from 0. */
@@ -236,6 +244,23 @@ uint64_t hsc_replay(uint8_t *image, size_t image_len, uint8_t last[HSC_SNAPSHOT_
  */
 uint64_t hsc_mend(uint8_t *image, size_t image_len, uint64_t first, const uint8_t *patch, size_t patch_len,
                   uint32_t span[2]);
+
+/*
+ * Comparing two traces, each a row of events without a header: writes the places within the shorter where kind, sub or
+ * value differ, stamps disregarded, into row, rising, and how many there are into count. row_len counts numbers, and
+ * the row past the differences stays. Events past the shorter's length are checked and not compared.
+ * Refusals, first that applies: 9 for either trace, naming none; 5 for the first, then for the second, named by
+ * hsc_trace; 12.
+ */
+uint64_t hsc_compare(const uint8_t *first, size_t first_len, const uint8_t *second, size_t second_len, uint32_t *row,
+                     size_t row_len, uint32_t *count);
+
+/*
+ * The unread rest of the longer trace, as a part of it: answers 1 or 2 for the trace, and part becomes the place of the
+ * rest's first byte, which is the shorter's length, and its length. Equal lengths give the empty end of the first.
+ * Nothing is refused: any lengths will do.
+ */
+uint32_t hsc_rest(const uint8_t *first, size_t first_len, const uint8_t *second, size_t second_len, uint64_t part[2]);
 
 #ifdef __cplusplus
 }

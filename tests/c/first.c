@@ -1,5 +1,5 @@
 /* Calls the library as the depot's program does: a fresh snapshot is stepped and read back, an image is replayed and mended,
- * and refusals are met.
+ * two traces are compared, and refusals are met.
  * One line for each check; the first that fails ends the run with status 1.
  *
  *   rt staticlib hsc
@@ -217,6 +217,97 @@ static void images(void) {
     check("and the image and the span are as they were", memcmp(image, expected, IMAGE) == 0 && span[0] == 1 && span[1] == 1);
 }
 
+/* A trace that is lent to be compared or for its rest. */
+struct trace {
+    const uint8_t *bytes;
+    size_t len;
+};
+
+enum { TRACE = 4 * HSC_EVENT_SIZE, ROW = 4, KEPT = 77 };
+
+/* The differences, with a row of so many numbers; the numbers past them are kept. */
+static void check_compared(const char *what, struct trace first, struct trace second, size_t row_len, uint32_t differences,
+                           const uint32_t expected[ROW]) {
+    uint32_t row[ROW] = {KEPT, KEPT, KEPT, KEPT}, count = KEPT;
+    uint64_t status = hsc_compare(first.bytes, first.len, second.bytes, second.len, row, row_len, &count);
+    check(what, status == 0 && count == differences && memcmp(row, expected, sizeof row) == 0);
+}
+
+/* The refusal with the trace that it names and its place, and a row and a count that are as they were. */
+static void check_uncompared(const char *what, uint32_t number, uint32_t trace, uint32_t place, struct trace first,
+                             struct trace second, size_t row_len) {
+    const uint32_t before[ROW] = {KEPT, KEPT, KEPT, KEPT};
+    uint32_t row[ROW] = {KEPT, KEPT, KEPT, KEPT}, count = KEPT;
+    uint64_t status = hsc_compare(first.bytes, first.len, second.bytes, second.len, row, row_len, &count);
+    check(what, hsc_number(status) == number && hsc_trace(status) == trace && hsc_place(status) == place &&
+                    memcmp(row, before, sizeof row) == 0 && count == KEPT);
+}
+
+/* ACC := acc, outputs := 3, a staged write of 5 to sub, an event of this kind. */
+static void trace_of(uint8_t trace[TRACE], int32_t acc, uint8_t sub, uint8_t kind) {
+    event_of(trace, 5, 0, acc);
+    event_of(trace + HSC_EVENT_SIZE, 9, 0, 3);
+    event_of(trace + 2 * HSC_EVENT_SIZE, 2, sub, 5);
+    event_of(trace + 3 * HSC_EVENT_SIZE, kind, 0, 0);
+}
+
+static void comparisons(void) {
+    uint8_t first[TRACE], second[TRACE], illegal[TRACE];
+    trace_of(first, 7, 1, 6);
+    trace_of(second, 9, 2, 7);
+    put(second, HSC_EVENT_SIZE + 8, 4, 1);
+    trace_of(illegal, 9, 7, 7);
+    const struct trace one = {first, TRACE}, other = {second, TRACE}, bad = {illegal, TRACE};
+    const struct trace half = {first, TRACE / 2}, other_half = {second, TRACE / 2}, odd = {first, 13}, empty = {first, 0};
+    const uint32_t none[ROW] = {KEPT, KEPT, KEPT, KEPT}, value[ROW] = {0, KEPT, KEPT, KEPT}, all[ROW] = {0, 2, 3, KEPT};
+
+    check_compared("value, sub and kind differ, a stamp does not; the row is just long enough", one, other, 3, 3, all);
+    check_compared("a longer row is kept past them", one, other, ROW, 3, all);
+    check_compared("a shorter first ends the comparison", half, other, ROW, 1, value);
+    check_compared("so does a shorter second", one, other_half, ROW, 1, value);
+    check_compared("a trace differs nowhere from itself", one, one, 0, 0, none);
+    check_compared("two empty ones differ nowhere", empty, empty, 0, 0, none);
+
+    check_uncompared("comparing: a row too short by one is refused by 12", 12, 0, 0, one, other, 2);
+    check_uncompared("comparing: an illegal event of the first is refused by 5", 5, 1, 2, bad, half, ROW);
+    check_uncompared("comparing: so is one of the second, past the first's length", 5, 2, 2, half, bad, ROW);
+    check_uncompared("comparing: the first goes before the second, and 5 before 12", 5, 1, 2, bad, bad, 0);
+    check_uncompared("comparing: a first of 13 bytes is refused by 9, naming none", 9, 0, 0, odd, one, ROW);
+    check_uncompared("comparing: so is a second, and 9 goes before 5", 9, 0, 0, bad, odd, ROW);
+}
+
+static void longest(void) {
+    uint8_t *blanks = calloc(HSC_MAX_EVENTS + 1, HSC_EVENT_SIZE), event[HSC_EVENT_SIZE];
+    check("there is memory for the longest trace", blanks != NULL);
+    event_of(event, 5, 0, 7);
+    const struct trace short_one = {event, sizeof event}, most = {blanks, (size_t)HSC_MAX_EVENTS * HSC_EVENT_SIZE};
+    const struct trace over = {blanks, most.len + HSC_EVENT_SIZE};
+    check_compared("1048576 events are compared", most, short_one, ROW, 1, (uint32_t[ROW]){0, KEPT, KEPT, KEPT});
+    check_uncompared("comparing: one more in the first is refused by 9", 9, 0, 0, over, short_one, ROW);
+    check_uncompared("comparing: one more in the second is refused by 9", 9, 0, 0, short_one, over, ROW);
+    free(blanks);
+}
+
+/* The trace, and the place and length of its part. */
+static void check_rest(const char *what, size_t first_len, size_t second_len, uint32_t trace, uint64_t place, uint64_t len) {
+    const uint8_t first[TRACE] = {0}, second[TRACE] = {0};
+    uint64_t part[2] = {KEPT, KEPT};
+    uint32_t longer = hsc_rest(first, first_len, second, second_len, part);
+    check(what, longer == trace && part[0] == place && part[1] == len);
+}
+
+static void rests(void) {
+    const uint8_t bytes[TRACE] = {0};
+    uint64_t part[2] = {KEPT, KEPT};
+    check_rest("the rest of a longer first", 48, 12, 1, 12, 36);
+    check_rest("the rest of a longer second", 12, 48, 2, 12, 36);
+    check_rest("the rest beside an empty trace is the whole", 0, 48, 2, 0, 48);
+    check_rest("the rest of lengths that are no events'", 13, 12, 1, 12, 1);
+    check_rest("equal lengths give the empty end of the first", 48, 48, 1, 48, 0);
+    check_rest("so do two empty traces", 0, 0, 1, 0, 0);
+    check("so does a trace with itself", hsc_rest(bytes, 24, bytes, 24, part) == 1 && part[0] == 24 && part[1] == 0);
+}
+
 static void version(void) {
     check("header and archive are of one version", hsc_version() == HSC_VERSION_NUMBER);
 }
@@ -227,5 +318,8 @@ int main(void) {
     steps();
     refusals();
     images();
+    comparisons();
+    longest();
+    rests();
     return 0;
 }

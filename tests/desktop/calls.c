@@ -1,4 +1,4 @@
-/* The six calls through the header, as C and as C++: each done and refused, with guard bytes behind what is lent. */
+/* The eight calls through the header, as C and as C++: each done and refused, with guard bytes behind what is lent. */
 #include "hsc.h"
 
 #include <stdio.h>
@@ -85,6 +85,33 @@ static void check_image(const uint8_t image[IMAGE_SIZE])
     expect(bytes[IMAGE_SIZE] == GUARD && last[HSC_SNAPSHOT_SIZE] == GUARD && span[2] == 42, "no more is written");
 }
 
+static void check_traces(void)
+{
+    const uint8_t first[2 * HSC_EVENT_SIZE] = {HSC_ACC_WRITE, 0, 0, 0, 7, 0, 0, 0, 1};
+    const uint8_t second[3 * HSC_EVENT_SIZE] = {HSC_ACC_WRITE, 0, 0, 0, 7, 0, 0, 0, 2, 0, 0, 0, HSC_ROUTINE_DONE};
+    uint8_t bad[3 * HSC_EVENT_SIZE] = {0};
+    uint32_t row[2] = {40, 41};
+    uint32_t count = 42;
+    uint64_t part[3] = {43, 44, 45};
+    uint64_t status;
+
+    bad[2 * HSC_EVENT_SIZE] = HSC_KIND_COUNT;
+    expect(hsc_compare(first, 23, bad, sizeof bad, row, 1, &count) == refusal(9, 0), "comparing refuses 23 bytes");
+    status = hsc_compare(first, sizeof first, bad, sizeof bad, row, 0, &count);
+    expect(hsc_number(status) == HSC_REFUSED_EVENT && hsc_place(status) == 2, "5 has its number and place");
+    expect(hsc_trace(status) == 2, "5 names the second trace");
+    expect(hsc_trace(hsc_compare(bad, sizeof bad, bad, sizeof bad, row, 0, &count)) == 1, "5 names the first trace");
+    status = hsc_compare(first, sizeof first, second, sizeof second, row, 0, &count);
+    expect(status == refusal(12, 0), "comparing refuses a row without room");
+    expect(row[0] == 40 && count == 42, "a refused comparison leaves all");
+    expect(hsc_compare(first, sizeof first, second, sizeof second, row, 1, &count) == HSC_DONE, "comparing is done");
+    expect(count == 1 && row[0] == 1 && row[1] == 41, "the place of one difference is written, and no more");
+    expect(hsc_rest(first, sizeof first, second, sizeof second, part) == 2, "the second is longer");
+    expect(part[0] == 24 && part[1] == 12 && part[2] == 45, "its rest is one event");
+    expect(hsc_rest(first, sizeof first, first, sizeof first, part) == 1, "of equal lengths the first is named");
+    expect(part[0] == 24 && part[1] == 0, "its rest is the empty end");
+}
+
 /* The operand is the path of the image of two events. */
 int main(int count, char **words)
 {
@@ -100,5 +127,6 @@ int main(int count, char **words)
     check_events();
     check_single(image + HSC_HEADER_SIZE + 2 * HSC_EVENT_SIZE);
     check_image(image);
+    check_traces();
     return failures == 0 ? 0 : 1;
 }

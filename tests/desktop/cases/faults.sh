@@ -91,7 +91,8 @@ done
 # The commands that only print.
 writes night.trace new.trace new.trace
 for words in 'info night.trace' 'events night.trace' 'show night.trace 1' 'state night.trace 1' 'check night.trace' \
-    'replay night.trace' 'mend --dry-run night.trace 0 one-event.patch'; do
+    'compare night.trace old.trace' 'compare --events one-event.patch one-event.patch' 'replay night.trace' \
+    'mend --dry-run night.trace 0 one-event.patch'; do
     each_fault $words
 done
 writes night.trace old.trace new.trace

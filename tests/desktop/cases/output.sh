@@ -1,7 +1,8 @@
 # Standard streams that are full or closed, and disks that are.
 
 for words in --help --version help 'help mend' 'info two-events.trace' 'events two-events.trace' \
-    'show two-events.trace 0' 'state two-events.trace' 'check two-events.trace' 'replay two-events.trace'; do
+    'show two-events.trace 0' 'state two-events.trace' 'check two-events.trace' \
+    'compare two-events.trace two-events.trace' 'replay two-events.trace'; do
     status=0
     "$PROGRAM" $words > /dev/full 2> err || status=$?
     verdict "hsc $words > /dev/full: exit status $status" [ "$status" -eq 2 ]

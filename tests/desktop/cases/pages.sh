@@ -24,7 +24,7 @@ for command in $(sed -n 's/^  hsc \([a-z]*\).*/\1/p' out); do
         verdict "hsc.1 has $option" grep -q -F -e "$(echo "$option" | sed 's/-/\\-/g')" "$root/man/hsc.1"
     done
 done
-for call in $(sed -n 's/^uint.*\(hsc_[a-z_]*\)(.*/\1/p' "$root/include/hsc.h"); do
+for call in $(sed -n 's/^[a-z ]*uint.*\(hsc_[a-z_]*\)(.*/\1/p' "$root/include/hsc.h"); do
     verdict "hsc.3 has $call" grep -q "$call" "$root/man/hsc.3"
 done
 

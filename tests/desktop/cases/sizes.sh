@@ -12,6 +12,8 @@ try 0 check largest.trace
 try 0 info largest.trace
 says out 'gap: events 0 to 1048575, 1048576 blank'
 try 0 show largest.trace 1048576
+try 0 compare largest.trace largest.trace
+says out 'same: all 1048576 events'
 truncate -s $((12 * 1048576)) all.patch
 try 0 mend largest.trace 0 all.patch
 prints << END
@@ -37,6 +39,7 @@ for words in info replay check; do
     refuse 4 0 "$words" tail.trace
 done
 refuse 4 0 show tail.trace 0
+refuse 4 0 compare two-events.trace tail.trace
 refuse 4 0 mend tail.trace 0 one-event.patch
 verdict 'a huge image keeps its size' [ "$(stat -c %s tail.trace)" -eq 1099511627776 ]
 

@@ -4,13 +4,13 @@ for words in --help -h help; do
     try 0 $words
     says out 'usage: hsc COMMAND'
     cp out "help$words"
-    for command in info events show state check replay mend encode build help; do
+    for command in info events show state check compare replay mend encode build help; do
         says out "  hsc $command "
     done
 done
 same help--help help-h
 same help--help helphelp
-for command in info events show state check replay mend encode build help; do
+for command in info events show state check compare replay mend encode build help; do
     try 0 help "$command"
     says out "usage: hsc $command "
     cp out described
@@ -42,6 +42,7 @@ for words in '' nonsense --nonsense; do
 done
 for words in info replay check show mend events state encode build 'info a b' 'replay a b' 'show a' 'show a 1 2' \
     'mend a 1' 'mend a 1 b c' 'events a 1 2 3' 'state a 1 2' 'encode a' 'encode a b c' 'build a 1' 'build a 1 b c' \
+    compare 'compare a' 'compare a b c' 'compare --bare a b' 'compare --all a b --all' 'check --events a' \
     'events --gaps a' 'encode --bare a b' 'help a b' 'info -x' 'info --' 'info --check a' 'replay -o' 'replay a -o' 'mend --dry-run a 1 b --dry-run'; do
     try 2 $words
     says err "usage: hsc ${words%% *} "
@@ -67,6 +68,7 @@ cp two-events.trace ./-dashed
 try 0 info -- -dashed
 try 0 show -- -dashed 2
 try 0 check -- -dashed
+try 0 compare -- -dashed -dashed
 try 0 replay -- -dashed
 try 0 mend -- -dashed 1 one-event.patch
 try 0 mend --dry-run -- -dashed 1 one-event.patch
