@@ -1,5 +1,6 @@
 //! The library and the model side by side on the same inputs, in one run: replay, mending,
-//! the image's check and single steps over a full night. It asserts results, never times.
+//! the image's check and single steps over a full night, and two nights compared. It asserts
+//! results, never times.
 
 mod night;
 
@@ -10,7 +11,8 @@ use hsc_tests::generate::event::event;
 use hsc_tests::generate::image::Parts;
 use hsc_tests::model::counter::Counter;
 use hsc_tests::model::snapshot::encode;
-use hsc_tests::subject::{Model, Subject, UNDER_TEST, UNDER_TEST_NAME};
+use hsc_tests::model::trace::MAX_EVENTS;
+use hsc_tests::subject::{on_each, Model, Subject, UNDER_TEST, UNDER_TEST_NAME};
 
 const ROUNDS: usize = 15;
 
@@ -94,6 +96,42 @@ fn steps() {
     compare("event check", |subject| events.iter().map(|event| subject.event_check(event)).sum::<u32>());
 }
 
+fn nights() {
+    let first = night::events().into_flattened();
+    println!("two nights of {MAX_EVENTS} events each");
+
+    let compare_nights = |name, differs: fn(u32) -> bool| {
+        let second = night::copy(differs).into_flattened();
+        let places: Vec<u32> = (0..MAX_EVENTS).filter(|&place| differs(place)).collect();
+        let list = |subject: &dyn Subject, row: &mut [u32]| {
+            let mut count = 0;
+            assert_eq!(subject.compare(&first, &second, row, &mut count), 0);
+            count
+        };
+        let mut row = vec![0; places.len()];
+        compare(name, |subject| list(subject, &mut row));
+        on_each(|subject| {
+            let mut row = vec![0; places.len()];
+            list(subject, &mut row);
+            assert!(row == places, "{name}: the places");
+        });
+    };
+    compare_nights("compare, differ nowhere", |_| false);
+    compare_nights("compare, 1 place in 1000", |place| place % 1000 == 0);
+    compare_nights("compare, differ everywhere", |_| true);
+
+    // A million calls: the first grows from nothing to the night while the second shrinks.
+    let second = first.clone();
+    compare("rest", |subject| {
+        let (mut part, mut sum) = ([0; 2], 0);
+        for length in (0..first.len()).step_by(11) {
+            let trace = subject.rest(&first[..length], &second[length..], &mut part);
+            sum += u64::from(trace) * part[0] + part[1];
+        }
+        sum
+    });
+}
+
 fn main() {
     println!("library: {UNDER_TEST_NAME}; model: the model of document 01");
     println!("columns: the library's and the model's median of {ROUNDS} rounds, then library/model twice:");
@@ -104,4 +142,5 @@ fn main() {
         images(spacing);
     }
     steps();
+    nights();
 }

@@ -43,6 +43,20 @@ pub fn events() -> Vec<Bytes> {
     events
 }
 
+/// The night once more with other stamps, and another sample at each place that differs.
+pub fn copy(differs: fn(u32) -> bool) -> Vec<Bytes> {
+    let mut rng = Rng::new(2);
+    let mut events = events();
+    for (place, bytes) in (0..).zip(&mut events) {
+        if differs(place) {
+            let levels = if bytes[0] == 1 { bytes[4] ^ 4 } else { 0 };
+            *bytes = event(1, 0, levels.into());
+        }
+        stamp(&mut rng, bytes);
+    }
+    events
+}
+
 /// The night's image, its table not yet written.
 pub fn image(spacing: usize) -> Vec<u8> {
     image::image(&events(), spacing)

@@ -15,12 +15,28 @@ extern "C" {
         patch_len: usize,
         span: *mut u32,
     ) -> u64;
+    fn hsc_compare(
+        first: *const u8,
+        first_len: usize,
+        second: *const u8,
+        second_len: usize,
+        row: *mut u32,
+        row_len: usize,
+        count: *mut u32,
+    ) -> u64;
+    fn hsc_rest(
+        first: *const u8,
+        first_len: usize,
+        second: *const u8,
+        second_len: usize,
+        part: *mut u64,
+    ) -> u32;
 }
 
 pub struct Archive;
 
-// SAFETY of every call: each pointer comes from a slice or an array of the length passed or
-// fixed by the header, which lives through the call, and no two of them overlap.
+// SAFETY of every call: each pointer comes from a slice, an array or a number, of the length
+// passed or fixed by the header, which lives through the call, and no two of them overlap.
 impl Subject for Archive {
     fn event_check(&self, event: &[u8]) -> u32 {
         unsafe { hsc_event_check(event.as_ptr(), event.len()) }
@@ -42,5 +58,23 @@ impl Subject for Archive {
         unsafe {
             hsc_mend(image.as_mut_ptr(), image.len(), first, patch.as_ptr(), patch.len(), span.as_mut_ptr())
         }
+    }
+
+    fn compare(&self, first: &[u8], second: &[u8], row: &mut [u32], count: &mut u32) -> u64 {
+        unsafe {
+            hsc_compare(
+                first.as_ptr(),
+                first.len(),
+                second.as_ptr(),
+                second.len(),
+                row.as_mut_ptr(),
+                row.len(),
+                count,
+            )
+        }
+    }
+
+    fn rest(&self, first: &[u8], second: &[u8], part: &mut [u64; 2]) -> u32 {
+        unsafe { hsc_rest(first.as_ptr(), first.len(), second.as_ptr(), second.len(), part.as_mut_ptr()) }
     }
 }

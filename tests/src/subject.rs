@@ -1,4 +1,4 @@
-//! The five calls, for the model and for whatever is run against it.
+//! The seven calls, for the model and for whatever is run against it.
 
 use crate::model;
 
@@ -8,6 +8,8 @@ pub trait Subject {
     fn read(&self, snapshot: &[u8], fields: &mut [i32; 32]) -> u64;
     fn replay(&self, image: &mut [u8], last: &mut [u8; 68]) -> u64;
     fn mend(&self, image: &mut [u8], first: u64, patch: &[u8], span: &mut [u32; 2]) -> u64;
+    fn compare(&self, first: &[u8], second: &[u8], row: &mut [u32], count: &mut u32) -> u64;
+    fn rest(&self, first: &[u8], second: &[u8], part: &mut [u64; 2]) -> u32;
 }
 
 pub struct Model;
@@ -31,6 +33,14 @@ impl Subject for Model {
 
     fn mend(&self, image: &mut [u8], first: u64, patch: &[u8], span: &mut [u32; 2]) -> u64 {
         model::mend(image, first, patch, span)
+    }
+
+    fn compare(&self, first: &[u8], second: &[u8], row: &mut [u32], count: &mut u32) -> u64 {
+        model::compare(first, second, row, count)
+    }
+
+    fn rest(&self, first: &[u8], second: &[u8], part: &mut [u64; 2]) -> u32 {
+        model::rest(first, second, part)
     }
 }
 

@@ -45,7 +45,7 @@ impl Parts {
     }
 }
 
-fn event_count(rng: &mut Rng) -> usize {
+pub(super) fn event_count(rng: &mut Rng) -> usize {
     match rng.below(4096) {
         0 => rng.below(9000),
         1..=127 => rng.below(400),

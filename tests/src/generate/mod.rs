@@ -2,6 +2,7 @@
 
 pub mod event;
 pub mod image;
+pub mod pair;
 pub mod patch;
 mod rng;
 pub mod state;

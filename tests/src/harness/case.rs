@@ -12,22 +12,28 @@ pub enum Call {
     Read,
     Replay,
     Mend,
+    Compare,
+    Rest,
 }
 
-/// A call and what it is lent: `buffer` is the snapshot or image, `input` the event or patch.
+/// A call and what it is lent: `buffer` is the snapshot, image or first trace, `input` the
+/// event, patch or second trace, `row` the count of the row's numbers.
 #[derive(Debug)]
 pub struct Case {
     pub call: Call,
     pub buffer: Vec<u8>,
     pub first: u64,
     pub input: Vec<u8>,
+    pub row: usize,
 }
 
-/// Bytes on each side of a lent buffer that no call may touch: more than a snapshot.
+/// Bytes, or numbers of the row, on each side of a lent buffer that no call may touch: more than
+/// a snapshot.
 const GUARD: usize = 80;
 
 /// What a guard byte and a result hold before the call.
 const PAINT: u8 = 0xa5;
+const PAINTED_NUMBER: u32 = u32::from_le_bytes([PAINT; 4]);
 
 /// The results with guards between them, in one block so that a stray write shows.
 #[repr(C)]
@@ -40,6 +46,10 @@ pub struct Results {
     guard_2: [u8; GUARD],
     pub span: [u32; 2],
     guard_3: [u8; GUARD],
+    pub count: u32,
+    guard_4: [u8; GUARD],
+    pub part: [u64; 2],
+    guard_5: [u8; GUARD],
 }
 
 impl Results {
@@ -49,8 +59,12 @@ impl Results {
         guard_1: [PAINT; GUARD],
         last: [PAINT; 68],
         guard_2: [PAINT; GUARD],
-        span: [u32::from_le_bytes([PAINT; 4]); 2],
+        span: [PAINTED_NUMBER; 2],
         guard_3: [PAINT; GUARD],
+        count: PAINTED_NUMBER,
+        guard_4: [PAINT; GUARD],
+        part: [u64::from_le_bytes([PAINT; 8]); 2],
+        guard_5: [PAINT; GUARD],
     };
 }
 
@@ -60,6 +74,7 @@ pub struct Answer {
     pub status: u64,
     buffer: Vec<u8>,
     input: Vec<u8>,
+    row: Vec<u32>,
     pub results: Results,
 }
 
@@ -67,53 +82,74 @@ fn guarded(bytes: &[u8]) -> Vec<u8> {
     [&[PAINT; GUARD], bytes, &[PAINT; GUARD]].concat()
 }
 
-fn inside(guarded: &mut [u8]) -> &mut [u8] {
+fn inside<T>(guarded: &mut [T]) -> &mut [T] {
     let end = guarded.len() - GUARD;
     &mut guarded[GUARD..end]
 }
 
 impl Answer {
     /// The status and lent bytes of a call that changed nothing.
-    fn unchanged(case: &Case, status: u64) -> Answer {
+    pub(super) fn unchanged(case: &Case, status: u64) -> Answer {
         Answer {
             status,
             buffer: guarded(&case.buffer),
             input: guarded(&case.input),
+            row: vec![PAINTED_NUMBER; GUARD + case.row + GUARD],
             results: Results::PAINTED,
         }
     }
 
-    /// The snapshot or image after the call.
+    /// The snapshot, image or first trace after the call.
     pub fn buffer(&self) -> &[u8] {
         &self.buffer[GUARD..self.buffer.len() - GUARD]
+    }
+
+    /// The row after the call.
+    pub fn row(&self) -> &[u32] {
+        &self.row[GUARD..self.row.len() - GUARD]
     }
 
     /// Whether the guards and the read-only input are as they were.
     pub fn stays_within(&self, case: &Case) -> bool {
         let mut want = Answer::unchanged(case, self.status);
         inside(&mut want.buffer).copy_from_slice(self.buffer());
-        let Results { fields, last, span, .. } = self.results;
-        want.results = Results { fields, last, span, ..Results::PAINTED };
+        inside(&mut want.row).copy_from_slice(self.row());
+        let Results { fields, last, span, count, part, .. } = self.results;
+        want.results = Results { fields, last, span, count, part, ..Results::PAINTED };
         *self == want
     }
 
-    /// The refusal's number, 0 if there was none; for the event check its answer.
+    /// The refusal's number, 0 if there was none; for the event check and the rest the answer.
     pub fn number(&self) -> u32 {
-        self.status as u32
+        (self.status as u16).into()
+    }
+
+    /// The trace that the refusal speaks of, 0 if none.
+    pub fn trace(&self) -> u32 {
+        ((self.status >> 16) as u16).into()
+    }
+
+    pub fn place(&self) -> usize {
+        (self.status >> 32) as usize
     }
 
     /// The first place at which each part differs; lent bytes count from the guard's end.
     fn difference(&self, want: &Answer) -> String {
         let (ours, theirs) = (&self.results, &want.results);
-        let guards =
-            |results: &Results| [results.guard_0, results.guard_1, results.guard_2, results.guard_3].concat();
+        let guards = |results: &Results| {
+            let &Results { guard_0, guard_1, guard_2, guard_3, guard_4, guard_5, .. } = results;
+            [guard_0, guard_1, guard_2, guard_3, guard_4, guard_5].concat()
+        };
         let parts = [
             first_difference("status", &[self.status], &[want.status], 0),
             first_difference("buffer", &self.buffer, &want.buffer, GUARD),
             first_difference("input", &self.input, &want.input, GUARD),
+            first_difference("row", &self.row, &want.row, GUARD),
             first_difference("fields", &ours.fields, &theirs.fields, 0),
             first_difference("last", &ours.last, &theirs.last, 0),
             first_difference("span", &ours.span, &theirs.span, 0),
+            first_difference("count", &[ours.count], &[theirs.count], 0),
+            first_difference("part", &ours.part, &theirs.part, 0),
             first_difference("guards", &guards(ours), &guards(theirs), 0),
         ];
         parts.into_iter().flatten().collect::<Vec<_>>().join("; ")
@@ -152,8 +188,16 @@ impl Case {
         Case::lend(Call::Mend, image, first, patch)
     }
 
+    pub fn compare(first: &[u8], second: &[u8], row: usize) -> Case {
+        Case { row, ..Case::lend(Call::Compare, first, 0, second) }
+    }
+
+    pub fn rest(first: &[u8], second: &[u8]) -> Case {
+        Case::lend(Call::Rest, first, 0, second)
+    }
+
     fn lend(call: Call, buffer: &[u8], first: u64, input: &[u8]) -> Case {
-        Case { call, buffer: buffer.to_vec(), first, input: input.to_vec() }
+        Case { call, buffer: buffer.to_vec(), first, input: input.to_vec(), row: 0 }
     }
 
     /// Makes the call on guarded copies of the inputs.
@@ -161,6 +205,7 @@ impl Case {
         let mut answer = Answer::unchanged(self, 0);
         let buffer = inside(&mut answer.buffer);
         let input = &*inside(&mut answer.input);
+        let row = inside(&mut answer.row);
         let results = &mut answer.results;
         answer.status = match self.call {
             Call::EventCheck => subject.event_check(input).into(),
@@ -168,6 +213,8 @@ impl Case {
             Call::Read => subject.read(buffer, &mut results.fields),
             Call::Replay => subject.replay(buffer, &mut results.last),
             Call::Mend => subject.mend(buffer, self.first, input, &mut results.span),
+            Call::Compare => subject.compare(buffer, input, row, &mut results.count),
+            Call::Rest => subject.rest(buffer, input, &mut results.part).into(),
         };
         // The optimizer may not take the guards for unchanged.
         std::hint::black_box(answer)
@@ -175,7 +222,26 @@ impl Case {
 
     /// Answers a refusal with every buffer as it was.
     pub fn refused(&self, number: u32, place: usize) -> Answer {
-        Answer::unchanged(self, Refusal::new(number, place).status())
+        self.refused_by(Refusal::new(number, place))
+    }
+
+    pub fn refused_by(&self, refusal: Refusal) -> Answer {
+        Answer::unchanged(self, refusal.status())
+    }
+
+    /// Answers these places in the row, which stays past them, and their count.
+    pub fn listed(&self, places: &[u32]) -> Answer {
+        let mut answer = Answer::unchanged(self, 0);
+        inside(&mut answer.row)[..places.len()].copy_from_slice(places);
+        answer.results.count = places.len() as u32;
+        answer
+    }
+
+    /// Answers a part of a trace.
+    pub fn part(&self, trace: u32, part: [u64; 2]) -> Answer {
+        let mut answer = Answer::unchanged(self, trace.into());
+        answer.results.part = part;
+        answer
     }
 
     /// Whether the subject's answer is this one.
@@ -184,9 +250,9 @@ impl Case {
         if answer == *want {
             return Ok(());
         }
-        let Case { call, buffer, first, input } = self;
+        let Case { call, buffer, first, input, row } = self;
         Err(format!(
-            "{call:?} of {} bytes, first {first}, {} bytes of input: {}\nbuffer {}\ninput {}",
+            "{call:?} of {} bytes, first {first}, {} bytes of input, row {row}: {}\nbuffer {}\ninput {}",
             buffer.len(),
             input.len(),
             answer.difference(want),
@@ -215,5 +281,10 @@ mod tests {
         let mut touched = case.refused(6, 0);
         touched.results.guard_1[0] = 0;
         assert!(touched != case.refused(6, 0));
+        let case = Case::compare(&[0; 12], &[0; 12], 1);
+        let mut touched = case.listed(&[0]);
+        *touched.row.last_mut().unwrap() = 7;
+        assert!(touched != case.listed(&[0]) && !touched.stays_within(&case));
+        assert_eq!(touched.difference(&case.listed(&[0])), "row at 80 is 7, not 2779096485");
     }
 }

@@ -7,10 +7,10 @@ pub mod tally;
 
 use std::ops::Range;
 
-use case::Case;
+use case::{Answer, Call, Case};
 use tally::Tally;
 
-use crate::generate::{change_length, event, image, patch, state, Rng};
+use crate::generate::{change_length, event, image, pair, patch, state, Rng};
 use crate::model::event::{row, Event};
 use crate::model::{counter::Counter, snapshot};
 use crate::subject::{Model, Subject};
@@ -41,21 +41,23 @@ fn run_each(
 }
 
 fn any_call(subject: &dyn Subject, rng: &mut Rng, tally: &mut Tally) -> Result<(), String> {
-    match rng.below(16) {
+    match rng.below(20) {
         0 => check_event(subject, rng, tally),
         1 => read(subject, rng, tally),
         2..=6 => step(subject, rng, tally),
         7..=9 => replay(subject, rng, tally),
         10..=13 => mend(subject, rng, tally),
-        _ => demand_3(subject, rng, tally),
+        14 | 15 => demand_3(subject, rng, tally),
+        16..=18 => compare_nights(subject, rng, tally),
+        _ => rest(subject, rng, tally),
     }
 }
 
 /// Compares the subject's answer with the model's, which must leave all as it was if it refuses.
-fn compare(subject: &dyn Subject, case: &Case, tally: &mut Tally) -> Result<case::Answer, String> {
+fn compare(subject: &dyn Subject, case: &Case, tally: &mut Tally) -> Result<Answer, String> {
     let want = case.answer(&Model);
-    let refused = case.call != case::Call::EventCheck && want.status != 0;
-    if refused && want != case.refused(want.number(), (want.status >> 32) as usize) {
+    let refused = !matches!(case.call, Call::EventCheck | Call::Rest) && want.status != 0;
+    if refused && want != Answer::unchanged(case, want.status) {
         return Err(format!("the model refuses and writes: {case:?}"));
     }
     case.expect(subject, &want)?;
@@ -139,5 +141,21 @@ fn demand_3(subject: &dyn Subject, rng: &mut Rng, tally: &mut Tally) -> Result<(
     let patch = patch::legal(rng, &bytes, run);
     let inside = demand3::holds(subject, &bytes, run.0, patch.as_flattened())?;
     tally.demand_3(inside);
+    Ok(())
+}
+
+fn compare_nights(subject: &dyn Subject, rng: &mut Rng, tally: &mut Tally) -> Result<(), String> {
+    let [first, second] = pair::any(rng);
+    let case = Case::compare(&first, &second, pair::row_length(rng, &first, &second));
+    let answer = compare(subject, &case, tally)?;
+    tally.compared(&case, &answer);
+    Ok(())
+}
+
+fn rest(subject: &dyn Subject, rng: &mut Rng, tally: &mut Tally) -> Result<(), String> {
+    let [first, second] = pair::any_lengths(rng);
+    let case = Case::rest(&first, &second);
+    let answer = compare(subject, &case, tally)?;
+    tally.rest(&case, &answer);
     Ok(())
 }

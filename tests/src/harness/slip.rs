@@ -5,7 +5,7 @@ use std::cell::Cell;
 
 use crate::generate::image::Parts;
 use crate::model::counter::{Counter, OUTPUTS};
-use crate::model::{flags, snapshot};
+use crate::model::{event, flags, snapshot};
 use crate::subject::{Model, Subject};
 
 #[derive(Clone, Debug)]
@@ -28,10 +28,22 @@ pub enum Slip {
     StampLeftOut,
     /// Refuses rightly but writes its result.
     RefusalWrites,
+    /// Compares the stamps too.
+    StampCompared,
+    /// Lists the places of the longer trace past the shorter's length as well.
+    ListsRest,
+    /// Leaves off at the first difference.
+    ListsFirst,
+    /// Writes what the row holds, then refuses by 12.
+    ShortRowWritten,
+    /// Names the other trace in a 5.
+    OtherTrace,
+    /// Gives the end of the shorter trace.
+    ShorterRest,
 }
 
 impl Slip {
-    pub fn all() -> [Slip; 11] {
+    pub fn all() -> [Slip; 17] {
         [
             Slip::StepRefusesAll,
             Slip::StepIsFixed,
@@ -44,6 +56,12 @@ impl Slip {
             Slip::MendNamesEnd,
             Slip::StampLeftOut,
             Slip::RefusalWrites,
+            Slip::StampCompared,
+            Slip::ListsRest,
+            Slip::ListsFirst,
+            Slip::ShortRowWritten,
+            Slip::OtherTrace,
+            Slip::ShorterRest,
         ]
     }
 }
@@ -126,5 +144,50 @@ impl Subject for Slip {
             _ => {}
         }
         status
+    }
+
+    fn compare(&self, first: &[u8], second: &[u8], row: &mut [u32], count: &mut u32) -> u64 {
+        let (events, others) = (event::row(first), event::row(second));
+        let (shorter, longer) = (events.len().min(others.len()), events.len().max(others.len()));
+        let (mut places, mut found) = (vec![0; longer], 0);
+        let mut status = Model.compare(first, second, &mut places, &mut found);
+        if matches!(self, Slip::OtherTrace) && status as u16 == 5 {
+            status ^= 3 << 16;
+        }
+        if status != 0 {
+            return status;
+        }
+        places.truncate(found as usize);
+        match self {
+            Slip::StampCompared => {
+                let pairs = (0..).zip(events.iter().zip(others));
+                places = pairs.filter(|(_, (a, b))| a != b).map(|(place, _)| place).collect();
+            }
+            Slip::ListsRest => places.extend(shorter as u32..longer as u32),
+            Slip::ListsFirst => places.truncate(1),
+            _ => {}
+        }
+        let fits = places.len() <= row.len();
+        if fits || matches!(self, Slip::ShortRowWritten) {
+            for (number, place) in row.iter_mut().zip(&places) {
+                *number = *place;
+            }
+        }
+        if !fits {
+            return 12;
+        }
+        *count = places.len() as u32;
+        0
+    }
+
+    fn rest(&self, first: &[u8], second: &[u8], part: &mut [u64; 2]) -> u32 {
+        let trace = Model.rest(first, second, part);
+        match self {
+            Slip::ShorterRest if part[1] > 0 => {
+                part[1] = 0;
+                3 - trace
+            }
+            _ => trace,
+        }
     }
 }

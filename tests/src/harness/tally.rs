@@ -5,8 +5,10 @@ use std::fmt;
 
 use super::case::{Answer, Call, Case};
 use crate::generate::image::Table;
+use crate::generate::pair;
 use crate::model::counter::Counter;
-use crate::model::event::Event;
+use crate::model::event::{first_illegal, row, Event};
+use crate::model::trace::MAX_EVENTS;
 use crate::model::{flags, Fate};
 
 #[derive(Default)]
@@ -15,7 +17,7 @@ pub struct Tally {
 }
 
 /// Each heading with the numbers that must be reached under it.
-const REQUIRED: [(&str, &[u32]); 20] = [
+const REQUIRED: [(&str, &[u32]); 33] = [
     (CHECK, &[0, 1, 9]),
     (STEP, &[0, 5, 6, 9]),
     (READ, &[0, 6, 9]),
@@ -36,9 +38,23 @@ const REQUIRED: [(&str, &[u32]); 20] = [
     (STOP_INSIDE, TABLES),
     (STOP_END, TABLES),
     (DEMAND_3, &[0, 1]),
+    (COMPARE, &[0, 5, 9, 12]),
+    (UNEVEN, TRACES),
+    (AT_LIMIT, TRACES),
+    (PAST_LIMIT, TRACES),
+    (ILLEGAL, TRACES),
+    (ILLEGAL_PAST, TRACES),
+    (ILLEGAL_BOTH, &[1]),
+    (ROW, &[0, 1, 2, 3]),
+    (DIFFER, &[0, 1, 2]),
+    (LONGER, TRACES),
+    (REST, TRACES),
+    (REST_EQUAL, &[1]),
+    (REST_UNEVEN, TRACES),
 ];
 
 const CAUSES: &[u32] = &[1, 2, 3, 4];
+const TRACES: &[u32] = &[1, 2];
 const TABLES: &[u32] = &[0, 1, 2, 3, 4, 5];
 const CHECK: &str = "event check: answer";
 const STEP: &str = "step: refusal";
@@ -61,6 +77,19 @@ const STOP_INSIDE: &str =
     "mend stopped inside a table (0 true, 1 one wrong byte, 2 stale, 3 other start, 4 states, 5 noise)";
 const STOP_END: &str = "mend stopped at S (tables as above)";
 const DEMAND_3: &str = "demand 3: 0 stopped inside, 1 at S";
+const COMPARE: &str = "compare: refusal";
+const UNEVEN: &str = "compare refused for a length not a multiple of 12: trace";
+const AT_LIMIT: &str = "compare not refused for 1048576 events: trace";
+const PAST_LIMIT: &str = "compare refused for 1048577 events: trace";
+const ILLEGAL: &str = "compare refused for an illegal event: trace";
+const ILLEGAL_PAST: &str = "compare refused for an illegal event past the shorter's length: trace";
+const ILLEGAL_BOTH: &str = "compare refused with illegal events in both: trace";
+const ROW: &str = "compare with differences: row 0 exactly full, 1 longer, 2 too short by one, 3 by more";
+const DIFFER: &str = "compare done: differ 0 nowhere, 1 somewhere, 2 everywhere";
+const LONGER: &str = "compare done with lengths that differ: longer trace";
+const REST: &str = "rest: answer";
+const REST_EQUAL: &str = "rest of equal lengths: answer";
+const REST_UNEVEN: &str = "rest with a length not a multiple of 12: answer";
 
 impl Tally {
     fn add(&mut self, heading: &'static str, number: u32) {
@@ -75,9 +104,11 @@ impl Tally {
             Call::Read => READ,
             Call::Replay => REPLAY,
             Call::Mend => MEND,
+            Call::Compare => COMPARE,
+            Call::Rest => REST,
         };
         self.add(heading, answer.number());
-        if answer.status >> 32 != 0 {
+        if answer.place() != 0 {
             self.add(AT_PLACE, answer.number());
         }
     }
@@ -90,6 +121,55 @@ impl Tally {
 
     pub fn demand_3(&mut self, stopped_inside: bool) {
         self.add(DEMAND_3, (!stopped_inside).into());
+    }
+
+    /// Counts what a comparison met: the lengths, and what its outcome goes by.
+    pub fn compared(&mut self, case: &Case, answer: &Answer) {
+        const LIMIT: usize = 12 * MAX_EVENTS as usize;
+        const BEYOND: usize = LIMIT + 12;
+        let (number, trace) = (answer.number(), answer.trace());
+        for (trace, length) in [(1, case.buffer.len()), (2, case.input.len())] {
+            match (number, length) {
+                (0 | 5 | 12, LIMIT) => self.add(AT_LIMIT, trace),
+                (9, BEYOND) => self.add(PAST_LIMIT, trace),
+                (9, _) if length % 12 != 0 => self.add(UNEVEN, trace),
+                _ => {}
+            }
+        }
+        let (first, second) = (row(&case.buffer), row(&case.input));
+        let shorter = first.len().min(second.len());
+        let differences = pair::differences(&case.buffer, &case.input);
+        match number {
+            0 if differences == 0 => self.add(DIFFER, 0),
+            0 => {
+                self.add(DIFFER, if differences < shorter { 1 } else { 2 });
+                self.add(ROW, (case.row > differences).into());
+            }
+            5 => {
+                self.add(ILLEGAL, trace);
+                if answer.place() >= shorter {
+                    self.add(ILLEGAL_PAST, trace);
+                }
+                if first_illegal(first).is_some() && first_illegal(second).is_some() {
+                    self.add(ILLEGAL_BOTH, trace);
+                }
+            }
+            12 => self.add(ROW, if case.row + 1 == differences { 2 } else { 3 }),
+            _ => {}
+        }
+        if number == 0 && first.len() != second.len() {
+            self.add(LONGER, if first.len() > second.len() { 1 } else { 2 });
+        }
+    }
+
+    pub fn rest(&mut self, case: &Case, answer: &Answer) {
+        let [first, second] = [case.buffer.len(), case.input.len()];
+        if first == second {
+            self.add(REST_EQUAL, answer.number());
+        }
+        if first % 12 != 0 || second % 12 != 0 {
+            self.add(REST_UNEVEN, answer.number());
+        }
     }
 
     /// Takes an event on a state and counts what happens in it.

@@ -1,7 +1,8 @@
-//! The model's five calls, on slices as the C surface has them. A status holds the refusal's
-//! number in the low 32 bits and its place in the high 32; 0 is done. A refusal leaves every
-//! lent buffer as it was.
+//! The model's seven calls, on slices as the C surface has them. A status holds the refusal's
+//! number in bits 0 to 15, the trace it speaks of in bits 16 to 31 and its place in bits 32 to
+//! 63; 0 is done. A refusal leaves every lent buffer as it was.
 
+mod compare;
 pub mod counter;
 pub mod event;
 pub mod flags;
@@ -15,20 +16,26 @@ pub use interrupt::Fate;
 
 use event::Event;
 
-/// Why a call was refused: a number of the refusal table and its place.
+/// Why a call was refused: a number of the refusal table, the trace it speaks of (1 or 2; 0
+/// where it names none) and its place.
 #[derive(Clone, Copy, PartialEq, Eq, Debug)]
 pub struct Refusal {
     pub number: u32,
+    pub trace: u32,
     pub place: usize,
 }
 
 impl Refusal {
     pub const fn new(number: u32, place: usize) -> Refusal {
-        Refusal { number, place }
+        Refusal { number, trace: 0, place }
+    }
+
+    pub const fn of_trace(self, trace: u32) -> Refusal {
+        Refusal { trace, ..self }
     }
 
     pub const fn status(self) -> u64 {
-        self.number as u64 | (self.place as u64) << 32
+        self.number as u64 | (self.trace as u64) << 16 | (self.place as u64) << 32
     }
 }
 
@@ -83,4 +90,19 @@ pub fn replay(image: &mut [u8], last: &mut snapshot::Bytes) -> u64 {
 /// takes s + 1 and the stop. Refusals 1 to 5, 7, 8, 6.
 pub fn mend(image: &mut [u8], first: u64, patch: &[u8], span: &mut [u32; 2]) -> u64 {
     status(trace::mend(image, first, patch).map(|answer| *span = answer))
+}
+
+/// Writes to the row, rising, each place within the shorter trace where kind, sub or value
+/// differ, and how many they are to `count`. Refusals 9, 5 of the first trace, 5 of the second,
+/// 12.
+pub fn compare(first: &[u8], second: &[u8], row: &mut [u32], count: &mut u32) -> u64 {
+    status(compare::compare(first, second, row).map(|answer| *count = answer))
+}
+
+/// Answers the longer trace, 1 if neither is; `part` takes the place and the length of its part
+/// past the shorter's length.
+pub fn rest(first: &[u8], second: &[u8], part: &mut [u64; 2]) -> u32 {
+    let (trace, answer) = compare::rest(first, second);
+    *part = answer;
+    trace
 }
