@@ -8,13 +8,38 @@ use borrow.Author.Tests.{lt-ltb, le-ltb}
 use lib.ListN.{length, drop}
 use Rattle.word.specs.Part.{put}
 use Rattle.refusal.specs.declared.Refusal.{Refusal}
-use Rattle.refusal.specs.Refusals.{Answer, refused, given, refusal, _andThen_, after}
+use Rattle.refusal.specs.declared.Trace.the-variants.{First, Second}
+use Rattle.refusal.specs.Refusals.{Answer, refusedIn, refused, given, refusal, _andThen_, after}
+use Rattle.refusal.proofs.Answers.{refused-given, both-passed}
 use Rattle.compare.specs.Places.{differences}
-use Rattle.compare.specs.Comparing.{tracesVerdict, listed, compareAnswer, compareRow}
+use Rattle.compare.specs.Comparing.{lengthsVerdict, traceVerdict, tracesVerdict, listed, compareAnswer, compareRow}
 
 -- two tests that calls made
 pub either : {a b r s t : Bool} → r ≡ a → s ≡ b → r || s ≡ t → a || b ≡ t
 either p q e = sym (ap₂ _||_ p q) ∙ e
+
+-- ---- the traces' verdict, where 9 and 5 of the first trace are known
+
+first-of-three : (r : Refusal) (a b c : Answer Unit) → refusal r ≡ (a andThen b) → refusal r ≡ (a andThen b andThen c)
+first-of-three r (refusedIn n t p) b c e = e
+first-of-three r (given u) (refusedIn n t p) c e = e
+first-of-three r (given u) (given v) c e = absurd (refused-given e)
+
+module _ (first second : List ℕ) where
+  pub front-refused : (r : Refusal) → refusal r ≡ (lengthsVerdict first second andThen traceVerdict First first) → refusal r ≡ tracesVerdict first second
+  unfolding tracesVerdict
+  front-refused r = first-of-three r (lengthsVerdict first second) (traceVerdict First first) (traceVerdict Second second)
+
+  pub first-passed : (lengthsVerdict first second andThen traceVerdict First first) ≡ given tt → traceVerdict First first ≡ given tt
+  first-passed e = both-passed (lengthsVerdict first second) (traceVerdict First first) e .1
+
+  pub front-passed : (lengthsVerdict first second andThen traceVerdict First first) ≡ given tt → traceVerdict Second second ≡ tracesVerdict first second
+  unfolding tracesVerdict
+  front-passed e =
+      let both = both-passed (lengthsVerdict first second) (traceVerdict First first) e in
+      rw (both .0, both .1)
+
+-- ---- the call
 
 module _ (first second row : List ℕ) where
   -- 9 or 5

@@ -1,26 +1,28 @@
--- Two events have the same kind, sub and value exactly where they are the same but for the stamp; of legal ones, whose bytes 2 and 3 are zero,
--- exactly where the 8 bytes before the stamp are the same number.
+-- Two legal events have the same kind, sub and value exactly where the 8 bytes before their stamps are the same number; and an event with the
+-- bytes of a legal one is legal.
 use mathlib.Core.Path.{_≡_, refl, sym, ap, ap₂, _∙_}
 use mathlib.Core.Bool.{Bool, true, false, _&&_, false≢true}
 use mathlib.Core.List.{List}
-use Prim.Native.Nat.{ℕ, _+_, _*_, _^_, _≤_, _<_}
+use Prim.Native.Nat.{ℕ, _+_, _*_, _^_, _≤_}
 use native.Mathlib.Nat.{add-zero}
 use native.Mathlib.Omega.{arith}
 use borrow.Author.Tests.{eqb-true, eq-eqb}
 use lib.Dec.{eqb}
-use lib.ListN.{length}
+use lib.ListN.{length, take}
+use lib.Seq.{length-take-le}
 use mir.Syntax.{w32}
 use mir.Val.{Fits}
 use mir.Facts.{toZ-inj}
 use Rattle.word.specs.Part.{Bytes, part}
-use Rattle.word.specs.LittleEndian.{ofBytes, numberAt}
-use Rattle.word.specs.TwosComplement.{signed, eqZ}
-use Rattle.word.proofs.Part.{part-part, length-part, bytes-part}
-use Rattle.word.proofs.LittleEndian.{numberAt-lt, numberAt-add}
+use Rattle.word.specs.LittleEndian.{toBytes, ofBytes, numberAt}
+use Rattle.word.specs.TwosComplement.{eqZ}
+use Rattle.word.proofs.Part.{part-part, length-part, bytes-part, bytes-take}
+use Rattle.word.proofs.LittleEndian.{numberAt-lt, numberAt-add, toBytes-ofBytes}
 use Rattle.word.proofs.Branches.{eqZ-true, eqZ-refl}
 use Rattle.snapshot.specs.declared.event.Event.{Event}
 use Rattle.snapshot.specs.Widths.{eventSize}
 use Rattle.snapshot.specs.EventBytes.{eventOf, reservedZero, legalEvent}
+use Rattle.snapshot.proofs.Stamp.{event-stamp, legal-stamp}
 use Rattle.compare.specs.Places.{eventAt, sameEvent, sameAt}
 
 -- ---- kind, sub and value
@@ -59,24 +61,33 @@ module _ (first second : List ℕ) (i : ℕ) where
       go true e = absurd (h (same-at e))
       go false e = refl
 
--- ---- as one number
+-- ---- the 8 bytes before the stamp, as one number
 
--- the 12 bytes of a legal event
+-- the bytes of an event
 pub record Whole (e : List ℕ) : Type 0 where
   pub long : length e ≡ eventSize
   pub bytes : Bytes e
-  pub legal : legalEvent e ≡ true
 
-module _ (e : List ℕ) (w : Whole e) where
-  bounds : (numberAt e 0 1 < 256) × (numberAt e 1 1 < 256) × (numberAt e 4 4 < 2 ^ 32)
-  bounds =
-      let within : (at k : ℕ) → at + k ≤ eventSize → numberAt e at k < 256 ^ k =
-      λ at k h. numberAt-lt e at k (w .bytes) (omega (arith, w .long)) in
-      (within 0 1 (omega arith), within 1 1 (omega arith), within 4 4 (omega arith))
+module _ (d e : List ℕ) (v : Whole d) (w : Whole e) where
+  -- the same number has the same bytes
+  front-bytes : numberAt d 0 8 ≡ numberAt e 0 8 → take 8 d ≡ take 8 e
+  unfolding part
+  front-bytes same =
+      let long : length (take 8 d) ≡ length (take 8 e) =
+      length-take-le 8 d (omega (arith, v .long)) ∙ sym (length-take-le 8 e (omega (arith, w .long))) in
+      sym (toBytes-ofBytes (take 8 d) (bytes-take 8 d (v .bytes)))
+      ∙ ap₂ toBytes long same
+      ∙ toBytes-ofBytes (take 8 e) (bytes-take 8 e (w .bytes))
 
+  -- so beside a legal event the other is legal too
+  front-legal : numberAt d 0 8 ≡ numberAt e 0 8 → legalEvent d ≡ true → legalEvent e ≡ true
+  front-legal same legal = sym (legal-stamp d e (front-bytes same)) ∙ legal
+
+-- of a legal event, by its kind, sub and value
+module _ (e : List ℕ) (w : Whole e) (legal : legalEvent e ≡ true) where
   reserved : numberAt e 2 2 ≡ 0
   unfolding legalEvent reservedZero
-  reserved = eqb-true (numberAt e 2 2) 0 (both (eqb (numberAt e 2 2) 0) _ (w .legal) .0)
+  reserved = eqb-true (numberAt e 2 2) 0 (both (eqb (numberAt e 2 2) 0) _ legal .0)
 
   front : numberAt e 0 8 ≡ numberAt e 0 1 + 256 * numberAt e 1 1 + 2 ^ 32 * numberAt e 4 4
   front =
@@ -85,73 +96,64 @@ module _ (e : List ℕ) (w : Whole e) where
       let four : numberAt e 2 6 ≡ numberAt e 2 2 + 65536 * numberAt e 4 4 = numberAt-add e 2 2 4 (omega (arith, w .long)) in
       omega (arith, one, two, four, reserved)
 
+  value-fits : Fits w32 (numberAt e 4 4)
+  value-fits = record { fits = numberAt-lt e 4 4 (w .bytes) (omega (arith, w .long)) }
+
 agree : (a b : Bool) → (a ≡ true → b ≡ true) → (b ≡ true → a ≡ true) → a ≡ b
 agree true b f g = sym (f refl)
 agree false true f g = g refl
 agree false false f g = refl
 
-module _ (d e : List ℕ) (v : Whole d) (w : Whole e) where
-  -- kind, sub and value, as the numbers in their bytes
-  record Parts : Type 0 where
-    pub kind : numberAt d 0 1 ≡ numberAt e 0 1
-    pub sub : numberAt d 1 1 ≡ numberAt e 1 1
-    pub value : numberAt d 4 4 ≡ numberAt e 4 4
-
-  parts : numberAt d 0 8 ≡ numberAt e 0 8 → Parts
-  parts same =
-      let sum = sym (front d v) ∙ same ∙ front e w in
-      let a = bounds d v in
-      let b = bounds e w in
-      record {
-        kind = omega (arith, sum, a .0, a .1, a .2, b .0, b .1, b .2);
-        sub = omega (arith, sum, a .0, a .1, a .2, b .0, b .1, b .2);
-        value = omega (arith, sum, a .0, a .1, a .2, b .0, b .1, b .2);
-      }
-
-  pub front-same : eqb (numberAt d 0 8) (numberAt e 0 8) ≡ sameEvent (eventOf d) (eventOf e)
+module _ (d e : List ℕ) (v : Whole d) (w : Whole e) (p : legalEvent d ≡ true) (q : legalEvent e ≡ true) where
+  same-front : eventOf d ≡ eventOf e → numberAt d 0 8 ≡ numberAt e 0 8
   unfolding eventOf
-  front-same = agree _ _ to from
-    where
-      to : eqb (numberAt d 0 8) (numberAt e 0 8) ≡ true → sameEvent (eventOf d) (eventOf e) ≡ true
-      to t =
-          let p = parts (eqb-true (numberAt d 0 8) (numberAt e 0 8) t) in
-          event-same (eventOf d) (eventOf e) (λ i. record { kind = p .kind i; sub = p .sub i; value = signed w32 (p .value i) })
+  same-front same =
+      let kind : numberAt d 0 1 ≡ numberAt e 0 1 = ap (λ (x : Event). x .kind) same in
+      let sub : numberAt d 1 1 ≡ numberAt e 1 1 = ap (λ (x : Event). x .sub) same in
+      let value : numberAt d 4 4 ≡ numberAt e 4 4 = toZ-inj {w = w32} (value-fits d v p) (value-fits e w q) (ap (λ (x : Event). x .value) same) in
+      omega (arith, front d v p, front e w q, kind, sub, value)
 
-      from : sameEvent (eventOf d) (eventOf e) ≡ true → eqb (numberAt d 0 8) (numberAt e 0 8) ≡ true
-      from t =
-          let same = same-event (eventOf d) (eventOf e) t in
-          let kind : numberAt d 0 1 ≡ numberAt e 0 1 = ap (λ (x : Event). x .kind) same in
-          let sub : numberAt d 1 1 ≡ numberAt e 1 1 = ap (λ (x : Event). x .sub) same in
-          let value : numberAt d 4 4 ≡ numberAt e 4 4 =
-          toZ-inj {w = w32} (record { fits = bounds d v .2 }) (record { fits = bounds e w .2 }) (ap (λ (x : Event). x .value) same) in
-          eq-eqb (numberAt d 0 8) (numberAt e 0 8) (omega (arith, front d v, front e w, kind, sub, value))
+  front-same : eqb (numberAt d 0 8) (numberAt e 0 8) ≡ sameEvent (eventOf d) (eventOf e)
+  front-same =
+      agree (eqb (numberAt d 0 8) (numberAt e 0 8)) (sameEvent (eventOf d) (eventOf e))
+      (λ t. event-same (eventOf d) (eventOf e) (event-stamp d e (front-bytes d e v w (eqb-true (numberAt d 0 8) (numberAt e 0 8) t))))
+      (λ t. eq-eqb (numberAt d 0 8) (numberAt e 0 8) (same-front (same-event (eventOf d) (eventOf e) t)))
 
--- ---- at a place of two traces
+-- ---- at a place of a trace
 
--- an event's bytes in a trace
-event-front : (trace : List ℕ) (i : ℕ) → i * eventSize + eventSize ≤ length trace
-    → numberAt trace (i * eventSize) 8 ≡ numberAt (part trace (i * eventSize) eventSize) 0 8
-event-front trace i h =
-    ap ofBytes (sym (part-part trace (i * eventSize) eventSize 0 8 h (omega arith) ∙ ap (λ (p : ℕ). part trace p 8) (add-zero (i * eventSize))))
-
--- what is known of the event at place i
-pub record Taken (trace : List ℕ) (i : ℕ) : Type 0 where
+-- an event that lies within the trace
+pub record Inside (trace : List ℕ) (i : ℕ) : Type 0 where
   pub inside : i * eventSize + eventSize ≤ length trace
   pub bytes : Bytes trace
-  pub legal : legalEvent (part trace (i * eventSize) eventSize) ≡ true
 
-whole : (trace : List ℕ) (i : ℕ) → Taken trace i → Whole (part trace (i * eventSize) eventSize)
-whole trace i t =
-    record {
-      long = length-part trace (i * eventSize) eventSize (t .inside);
-      bytes = bytes-part trace (i * eventSize) eventSize (t .bytes);
-      legal = t .legal;
-    }
+module _ (trace : List ℕ) (i : ℕ) where
+  abbrev pub bytesAt : List ℕ
+  bytesAt = part trace (i * eventSize) eventSize
 
--- the test that code makes is the definition's
-pub same-read : (first second : List ℕ) (i : ℕ) {m n : ℕ} → Taken first i → Taken second i
-    → m ≡ numberAt first (i * eventSize) 8 → n ≡ numberAt second (i * eventSize) 8 → eqb m n ≡ sameAt first second i
-unfolding sameAt
-same-read first second i s t p q =
-    ap₂ eqb (p ∙ event-front first i (s .inside)) (q ∙ event-front second i (t .inside))
-    ∙ front-same _ _ (whole first i s) (whole second i t)
+  whole : Inside trace i → Whole bytesAt
+  whole h =
+      record {
+        long = length-part trace (i * eventSize) eventSize (h .inside);
+        bytes = bytes-part trace (i * eventSize) eventSize (h .bytes);
+      }
+
+  front-at : Inside trace i → numberAt trace (i * eventSize) 8 ≡ numberAt bytesAt 0 8
+  front-at h =
+      ap ofBytes
+      (sym
+      (part-part trace (i * eventSize) eventSize 0 8 (h .inside) (omega arith) ∙ ap (λ (p : ℕ). part trace p 8) (add-zero (i * eventSize))))
+
+module _ (first second : List ℕ) (i : ℕ) (f : Inside first i) (s : Inside second i) (p : legalEvent (bytesAt first i) ≡ true) where
+  abbrev fronts : Bool
+  fronts = eqb (numberAt first (i * eventSize) 8) (numberAt second (i * eventSize) 8)
+
+  pub legal-at : fronts ≡ true → legalEvent (bytesAt second i) ≡ true
+  legal-at t =
+      front-legal (bytesAt first i) (bytesAt second i) (whole first i f) (whole second i s)
+      (sym (front-at first i f) ∙ eqb-true (numberAt first (i * eventSize) 8) (numberAt second (i * eventSize) 8) t ∙ front-at second i s) p
+
+  pub fronts-same : legalEvent (bytesAt second i) ≡ true → fronts ≡ sameAt first second i
+  unfolding sameAt
+  fronts-same q =
+      ap₂ eqb (front-at first i f) (front-at second i s)
+      ∙ front-same (bytesAt first i) (bytesAt second i) (whole first i f) (whole second i s) p q

@@ -23,7 +23,7 @@ use Rattle.image.specs.Verdicts.{eventsVerdict}
 use Rattle.image.proofs.Accepted.{all-legal, legal-all}
 use Rattle.compare.specs.Places.{eventsIn, shared}
 use Rattle.compare.specs.Comparing.{badLength, lengthsVerdict, traceVerdict, tracesVerdict}
-use Rattle.compare.proofs.Events.{Taken}
+use Rattle.compare.proofs.Events.{Inside}
 
 pub record Fit (trace : List ℕ) : Type 0 where
   pub whole : length trace ≡ eventsIn trace * eventSize
@@ -36,19 +36,24 @@ module _ (trace : List ℕ) where
   abbrev whole : Bool
   whole = eqb (length trace % eventSize) 0
 
-  at-first : (i : ℕ) → legalAt base trace 0 i ≡ legalEvent (part trace (i * eventSize) eventSize)
+  pub at-first : (i : ℕ) → legalAt base trace 0 i ≡ legalEvent (part trace (i * eventSize) eventSize)
   at-first i = ap (λ (p : ℕ). legalEvent (part trace p eventSize)) (zero-add (i * eventSize))
 
   length-few : badLength trace ≡ false → eventsIn trace ≤ maxEvents
   length-few e = ltb-false maxEvents (eventsIn trace) (none-of (not whole) (ltb maxEvents (eventsIn trace)) e .1)
 
-  trace-fit : (t : Trace) → badLength trace ≡ false → traceVerdict t trace ≡ given tt → Fit trace
+  -- what 5 leaves of it
+  pub verdict-legal : (t : Trace) → traceVerdict t trace ≡ given tt → (i : ℕ) → i < eventsIn trace
+      → legalEvent (part trace (i * eventSize) eventSize) ≡ true
   unfolding traceVerdict
+  verdict-legal t v i h =
+      sym (at-first i) ∙ all-legal base trace 0 5 (eventsIn trace) (in-passed t (eventsVerdict base 5 trace 0 (eventsIn trace)) v) i h
+
+  trace-fit : (t : Trace) → badLength trace ≡ false → traceVerdict t trace ≡ given tt → Fit trace
   trace-fit t e v =
       let rows = none-of (not whole) (ltb maxEvents (eventsIn trace)) e .0 in
       let none = eqb-true (length trace % eventSize) 0 (not-false whole rows) in
-      let all = all-legal base trace 0 5 (eventsIn trace) (in-passed t (eventsVerdict base 5 trace 0 (eventsIn trace)) v) in
-      record { whole = omega (arith, none); few = length-few e; legal = λ i h. sym (at-first i) ∙ all i h }
+      record { whole = omega (arith, none); few = length-few e; legal = verdict-legal t v }
 
   fit-length : Fit trace → badLength trace ≡ false
   fit-length f = rw (eq-eqb (length trace % eventSize) 0 (omega (arith, f .whole)), le-ltb maxEvents (eventsIn trace) (f .few))
@@ -57,9 +62,9 @@ module _ (trace : List ℕ) where
   unfolding traceVerdict
   fit-trace t f = ap (inTrace t) (legal-all base trace 0 5 (eventsIn trace) (λ i h. at-first i ∙ f .legal i h))
 
-  -- each of its events can be read
-  fit-taken : Fit trace → Bytes trace → (i : ℕ) → i < eventsIn trace → Taken trace i
-  fit-taken f bytes i h = record { inside = omega (arith, f .whole); bytes = bytes; legal = f .legal i h }
+-- an event within the shorter
+pub inside-both : (first second : List ℕ) (i : ℕ) → i < shared first second → Bytes first → Bytes second → Inside first i × Inside second i
+inside-both first second i h p q = (record { inside = omega arith; bytes = p }, record { inside = omega arith; bytes = q })
 
 -- ---- both
 
@@ -90,13 +95,6 @@ module _ (first second : List ℕ) where
   -- neither 9 nor 5
   pub traces-accepted : (tracesVerdict first second ≡ given tt) ↔ (Fit first × Fit second)
   traces-accepted = (traces-fit, λ f. fit-traces (f .0) (f .1))
-
-  -- the events at a place within the shorter
-  pub both-taken : tracesVerdict first second ≡ given tt → Bytes first → Bytes second → (i : ℕ) → i < shared first second
-      → Taken first i × Taken second i
-  both-taken e p q i h =
-      let f = traces-fit e in
-      (fit-taken first (f .0) p i (omega arith), fit-taken second (f .1) q i (omega arith))
 
   pub shared-few : tracesVerdict first second ≡ given tt → shared first second ≤ maxEvents
   shared-few e = omega (arith, traces-fit e .0 .few)

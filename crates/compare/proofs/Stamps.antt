@@ -10,7 +10,7 @@ use lib.ListN.{length, drop}
 use Rattle.word.specs.Part.{part}
 use Rattle.snapshot.specs.Widths.{eventSize}
 use Rattle.snapshot.specs.EventBytes.{legalEvent}
-use Rattle.snapshot.proofs.Stamp.{same-event, legal-stamp}
+use Rattle.snapshot.proofs.Stamp.{event-stamp, legal-stamp}
 use Rattle.refusal.specs.declared.Trace.{Trace}
 use Rattle.refusal.specs.declared.Trace.the-variants.{First, Second}
 use Rattle.refusal.specs.Refusals.{Answer, refused, given, inTrace, _andThen_, after}
@@ -30,7 +30,7 @@ module _ (a b : List ℕ) (s : SameButStamps a b) where
   count-same = ap (λ (n : ℕ). n / eventSize) (s .long)
 
   same-events : SameEvents a b
-  same-events = record { count = count-same; events = λ i h. same-event _ _ (s .before-stamp i h) }
+  same-events = record { count = count-same; events = λ i h. event-stamp _ _ (s .before-stamp i h) }
 
   length-same : badLength a ≡ badLength b
   length-same = ap (λ (n : ℕ). not (eqb (n % eventSize) 0) || ltb maxEvents (n / eventSize)) (s .long)

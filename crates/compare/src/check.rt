@@ -7,11 +7,13 @@ use refusal::Trace;
 use refusal::Verdict;
 use snapshot::EVENT_SIZE;
 ghost use mathlib.Core.Path.{_≡_};
-ghost use Prim.Native.Nat.{_%_};
-ghost use lib.ListN.{length};
-ghost use Rattle.snapshot.specs.Widths.{eventSize};
-ghost use Rattle.refusal.specs.Refusals.{verdictOf};
-ghost use Rattle.compare.specs.Comparing.{badLength, lengthsVerdict, traceVerdict, tracesVerdict};
+ghost use Prim.Native.Nat.{_≤_};
+ghost use Rattle.refusal.specs.declared.Trace.the-variants.{First, Second};
+ghost use Rattle.refusal.specs.Refusals.{given, verdictOf, _andThen_};
+ghost use Rattle.image.specs.Editions.{base};
+ghost use Rattle.image.specs.Verdicts.{eventsVerdict};
+ghost use Rattle.compare.specs.Places.{eventsIn};
+ghost use Rattle.compare.specs.Comparing.{badLength, lengthsVerdict, traceVerdict};
 
 // Whether the trace is no row of events, or too long.
 fn bad_length(trace: &[u8]) -> bool
@@ -42,19 +44,26 @@ fn trace_verdict(t: Trace, trace: &[u8]) -> Verdict
     Verdict::Accepted
 }
 
-// Refusals 9 and 5, in their order.
-pub fn traces_verdict(first: &[u8], second: &[u8]) -> Verdict
-    ensures { λ r. ⌜ verdictOf r ≡ tracesVerdict (now (first .entry)) (now (second .entry)) ⌝ }
+// Refusals 9, and 5 of the first trace.
+pub fn first_verdict(first: &[u8], second: &[u8]) -> Verdict
+    ensures { λ r. ⌜ verdictOf r ≡ (lengthsVerdict (now (first .entry)) (now (second .entry)) andThen traceVerdict First (now (first .entry))) ⌝ }
 {
     let of_lengths = lengths_verdict(first, second);
     match of_lengths {
         Verdict::Refused(_) => of_lengths,
-        Verdict::Accepted => {
-            let of_first = trace_verdict(Trace::First, first);
-            match of_first {
-                Verdict::Refused(_) => of_first,
-                Verdict::Accepted => trace_verdict(Trace::Second, second),
-            }
-        }
+        Verdict::Accepted => trace_verdict(Trace::First, first),
     }
+}
+
+// Refusal 5 of the second trace, whose first count events are legal.
+pub fn tail_verdict(second: &[u8], count: usize) -> Verdict
+    requires { ⌜ (count ≤ eventsIn (now second)) × (eventsVerdict base 5 (now second) 0 count ≡ given tt) ⌝ }
+    ensures { λ r. ⌜ verdictOf r ≡ traceVerdict Second (now (second .entry)) ⌝ }
+{
+    let left = second.len() / EVENT_SIZE - count;
+    let i = first_illegal(Edition::Base, second, count * EVENT_SIZE, left);
+    if i < left {
+        return Verdict::Refused(Refusal::TraceEvent(Trace::Second, count + i));
+    }
+    Verdict::Accepted
 }

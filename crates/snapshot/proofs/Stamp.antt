@@ -19,9 +19,9 @@ same-numbers : (d e : List ℕ) → take 8 d ≡ take 8 e → numbersAt readLayo
 unfolding part total
 same-numbers d e h = sym (unpack-here readLayout d 0) ∙ ap (unpack readLayout) h ∙ unpack-here readLayout e 0
 
-pub same-event : (d e : List ℕ) → take 8 d ≡ take 8 e → eventOf d ≡ eventOf e
+pub event-stamp : (d e : List ℕ) → take 8 d ≡ take 8 e → eventOf d ≡ eventOf e
 unfolding eventOf
-same-event d e h = ap eventRow (same-numbers d e h)
+event-stamp d e h = ap eventRow (same-numbers d e h)
 
 same-zero : (d e : List ℕ) → take 8 d ≡ take 8 e → reservedZero d ≡ reservedZero e
 unfolding reservedZero
@@ -29,8 +29,8 @@ same-zero d e h = ap (λ (r : List ℕ). eqb (getD r 2 0) 0) (same-numbers d e h
 
 pub legal-stamp : (d e : List ℕ) → take 8 d ≡ take 8 e → legalEvent d ≡ legalEvent e
 unfolding legalEvent
-legal-stamp d e h = rw (same-event d e h, same-zero d e h)
+legal-stamp d e h = rw (event-stamp d e h, same-zero d e h)
 
 pub step-stamp : (d e : List ℕ) (c : Counter) → take 8 d ≡ take 8 e → stepEvent d c ≡ stepEvent e c
 unfolding stepEvent
-step-stamp d e c h = rw (same-event d e h)
+step-stamp d e c h = rw (event-stamp d e h)

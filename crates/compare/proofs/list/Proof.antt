@@ -1,8 +1,9 @@
--- `compare::list` meets its contract: what was counted is how many differ, and the row is refused or filled by that.
+-- `compare::list` meets its contract: the row is refused where it is too short, and filled where it is not.
 use borrow.Author.Needs.{needs}
 use mathlib.Core.Path.{_≡_, ap, _∙_}
+use mathlib.Core.List.{List}
 use Prim.Native.Nat.{ℕ}
-use native.Mathlib.Omega.{arith}
+use native.Mathlib.Nat.{le-of-eq}
 use denote.Ref.{now}
 use lib.ListN.{length}
 use Rattle.word.specs.Part.{put}
@@ -11,29 +12,20 @@ use Rattle.compare.proofs.Answered.{not-listed, all-listed}
 use Rattle.compare.proofs.list.Statement.{statement}
 use Rattle.compare.proofs.list.Tie as tie
 
-abbrev start : tie.After-count-differences → tie.Start
-start c = c .before .before .before .before .before
-
--- what was counted
-counted : (c : tie.After-count-differences) → let args = start c .args in
-    c .count-differences .result ≡ length (differences (args .first .now) (args .second .now))
-counted c =
-    let args = start c .args in
-    c .count-differences .ensures ∙ ap (λ (n : ℕ). length (differing (args .first .now) (args .second .now) 0 n)) (c .before .shorter .ensures)
-
-shorter-requires : tie.Need-shorter-requires
-shorter-requires c κs = search needs
-
-count-differences-requires : tie.Need-count-differences-requires
-count-differences-requires c κs = (c .before .before .before .before .pre, omega (arith, c .shorter .ensures))
+-- the first count places are those within the shorter
+all : (c : tie.Start) → let args = c .args in
+    differing (now (args .first)) (now (args .second)) 0 (args .count) ≡ differences (now (args .first)) (now (args .second))
+all c = ap (differing (now (c .args .first)) (now (c .args .second)) 0) (c .pre .0 .1)
 
 returns : tie.Need-returns
-returns c = not-listed _ _ _ (start (c .before) .pre) _ (counted (c .before)) (c .if1 .taken)
+returns c =
+    let start = c .before .before .before .before in
+    not-listed _ _ _ (start .pre .0 .0) _ (start .pre .1 ∙ ap length (all start)) (c .if1 .taken)
 
 write-differences-requires : tie.Need-write-differences-requires
 write-differences-requires c κs =
-    let count = c .before .before in
-    ((start count .pre, omega (arith, count .before .shorter .ensures)), (count .count-differences .ensures, c .before .if1 .left))
+    let start = c .before .before .before .before .before in
+    ((start .pre .0 .0, le-of-eq (start .pre .0 .1)), (start .pre .1, c .before .if1 .left))
 
 same-length : tie.Need-same-length
 same-length c = search needs
@@ -42,19 +34,9 @@ returns-2 : tie.Need-returns-2
 returns-2 c =
     let wrote = c .before .before in
     let fits = wrote .before .before in
-    let count = fits .before in
-    let args = start count .args in
-    all-listed _ _ _ (start count .pre) _ (counted count) (fits .if1 .left) _
-    (wrote .write-differences .ensures
-    ∙ ap (λ (n : ℕ). put (args .row .now) 0 (differing (args .first .now) (args .second .now) 0 n)) (count .before .shorter .ensures))
+    let start = fits .before .before .before .before in
+    all-listed _ _ _ (start .pre .0 .0) _ (start .pre .1 ∙ ap length (all start)) (fits .if1 .left) _
+    (wrote .write-differences .ensures ∙ ap (put (now (start .args .row)) 0) (all start))
 
 pub list-spec : {M : Type 1} → statement M
-list-spec =
-    tie.close
-    (tie.spec
-    shorter-requires
-    count-differences-requires
-    returns
-    write-differences-requires
-    same-length
-    returns-2)
+list-spec = tie.close (tie.spec returns write-differences-requires same-length returns-2)

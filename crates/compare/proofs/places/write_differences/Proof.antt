@@ -7,9 +7,10 @@ use borrow.Author.Tests.{not-true, not-false}
 use denote.Ref.{now}
 use lib.ListN.{length, length-set}
 use Rattle.word.specs.Part.{put}
-use Rattle.compare.specs.Places.{differing}
+use Rattle.compare.specs.Places.{sameAt, differing, shared}
 use Rattle.compare.proofs.Differing.{from, from-first, count-some, count-same, count-other, write-same, write-other, write-end}
-use Rattle.compare.proofs.Fit.{shared-few}
+use Rattle.compare.proofs.Events.{fronts-same}
+use Rattle.compare.proofs.Fit.{traces-fit, inside-both, shared-few}
 use Rattle.compare.proofs.places.write_differences.Statement.{statement}
 use Rattle.compare.proofs.places.write_differences.Tie as tie
 
@@ -40,8 +41,23 @@ within c = count-some _ _ _ _ _ _ (c .before .loop .inv .1) (c .loop-test .taken
 room : (c : tie.In-loop Inv-loop μ-loop) → c .before .loop .k < length (c .before .loop .row)
 room c = omega (arith, c .loop-test .taken, start c .pre .1 .1, c .before .loop .inv .2)
 
-same-at-requires : tie.Need-same-at-requires Inv-loop μ-loop
-same-at-requires c κs = (start c .pre .0 .0, omega (arith, within c))
+same-front-requires : tie.Need-same-front-requires Inv-loop μ-loop
+same-front-requires c κs = omega (arith, within c)
+
+-- both events are legal, so the test is the definition's
+same-told : (c : tie.After-same-front Inv-loop μ-loop) → let in-loop = c .before in
+    c .same-front .result ≡ sameAt (now (start in-loop .args .first)) (now (start in-loop .args .second)) (in-loop .before .loop .i)
+same-told c =
+    let in-loop = c .before in
+    let second = in-loop .before .before .before in
+    let first = second .before in
+    let args = start in-loop .args in
+    let i = in-loop .before .loop .i in
+    let here : i < shared (now (args .first)) (now (args .second)) = omega (arith, within in-loop, start in-loop .pre .0 .1) in
+    let fit = traces-fit _ _ (start in-loop .pre .0 .0) in
+    let both = inside-both _ _ i here (λ j. first .shared-slice-known .given j .fits) (λ j. second .shared-slice-known2 .given j .fits) in
+    c .same-front .ensures
+    ∙ fronts-same _ _ i (both .0) (both .1) (fit .0 .legal i (omega (arith, here))) (fit .1 .legal i (omega (arith, here)))
 
 cast-row : tie.Need-cast-row Inv-loop μ-loop
 cast-row c =
@@ -70,14 +86,14 @@ loop-again c =
     let inv = asked .before .before .loop .inv in
     ⊎-elim
     (λ differs.
-    let other = sym (asked .same-at .ensures) ∙ not-true _ (differs .0 .taken) in (
+    let other = sym (same-told asked) ∙ not-true _ (differs .0 .taken) in (
       omega (arith, differs .2),
       rw (differs .2) (count-other _ _ _ _ _ _ (inv .1) here other),
       rw (differs .1, length-set) (inv .2),
       rw (differs .1, differs .2) (write-other _ _ _ _ _ _ _ (inv .3) here other (room (asked .before))),
     ))
     (λ agrees.
-    let same = sym (asked .same-at .ensures) ∙ not-false _ (agrees .0 .left) in (
+    let same = sym (same-told asked) ∙ not-false _ (agrees .0 .left) in (
       omega (arith, agrees .2),
       rw (agrees .2) (count-same _ _ _ _ _ _ (inv .1) here same),
       rw (agrees .1) (inv .2),
@@ -98,7 +114,7 @@ write-differences-spec =
     Inv-loop
     μ-loop
     loop-holds
-    same-at-requires
+    same-front-requires
     cast-row
     mul-row
     slice-write-row
