@@ -50,6 +50,8 @@ use Rattle.image_mend.specs.Mends.{mendAnswer, mendImage, mendOf}
 use Rattle.image_mend.specs.Demand3.{Edit, Demand3}
 use Rattle.hsc.specs.Version.{version}
 use Rattle.hsc.specs.Calls.{checkAnswer, stepAnswer, stepAfter, readAnswer, readAfter, replayStatus, mendStatus, mendSpan}
+use Rattle.hsc.specs.Calls.{compareStatus, compareCount, restNumber, restPart}
+use Rattle.compare.specs.Comparing.{compareRow}
 use Rattle.report.specs.Office.{officeLine}
 use Rattle.word.proofs as word
 use Rattle.refusal.proofs.Answers as refusals
@@ -69,6 +71,7 @@ use Rattle.report.proofs as report
 pub calls-met : {M : Type 1} → hsc.version.hsc_version.Statement.statement M × hsc.checking.hsc_event_check.Statement.statement M
     × hsc.stepping.hsc_step.Statement.statement M × hsc.reading.hsc_read.Statement.statement M
     × hsc.replaying.hsc_replay.Statement.statement M × hsc.mending.hsc_mend.Statement.statement M
+    × hsc.comparing.hsc_compare.Statement.statement M × hsc.comparing.hsc_rest.Statement.statement M
 calls-met = (
   hsc.version.hsc_version.Met.met,
   hsc.checking.hsc_event_check.Met.met,
@@ -76,6 +79,8 @@ calls-met = (
   hsc.reading.hsc_read.Met.met,
   hsc.replaying.hsc_replay.Met.met,
   hsc.mending.hsc_mend.Met.met,
+  hsc.comparing.hsc_compare.Met.met,
+  hsc.comparing.hsc_rest.Met.met,
 )
 
 -- The contracts, as the checker reads them for a caller: what is asked of the arguments, and what is learnt of them, the answer r and the
@@ -112,6 +117,19 @@ pub hsc-mend : (κs : _) (image image′ patch patch′ span span′ : RefT (Lis
     ≡ ((r ≡ mendStatus (now image) first (now patch))
     × ((now image′ ≡ mendImage (now image) first (now patch)) × (now span′ ≡ mendSpan (now image) first (now patch) (now span)))))
 hsc-mend κs image image′ patch patch′ span span′ first first′ r = (refl, refl)
+
+pub hsc-compare : (κs : _) (first first′ second second′ row row′ : RefT (List ℕ)) (count count′ : RefT ℕ) (r : ℕ)
+    → (hsc.comparing.hsc_compare.Reads.Asked κs (first, (second, (row, (count, tt)))) ≡ Unit)
+    × (hsc.comparing.hsc_compare.Reads.Learnt κs (first, (second, (row, (count, tt)))) r (first′, (second′, (row′, (count′, tt))))
+    ≡ ((r ≡ compareStatus (now first) (now second) (now row))
+    × ((now row′ ≡ compareRow (now first) (now second) (now row)) × (now count′ ≡ compareCount (now first) (now second) (now row) (now count)))))
+hsc-compare κs first first′ second second′ row row′ count count′ r = (refl, refl)
+
+pub hsc-rest : (κs : _) (first first′ second second′ part part′ : RefT (List ℕ)) (r : ℕ)
+    → (hsc.comparing.hsc_rest.Reads.Asked κs (first, (second, (part, tt))) ≡ Unit)
+    × (hsc.comparing.hsc_rest.Reads.Learnt κs (first, (second, (part, tt))) r (first′, (second′, (part′, tt)))
+    ≡ ((r ≡ restNumber (now first) (now second)) × (now part′ ≡ restPart (now first) (now second))))
+hsc-rest κs first first′ second second′ part part′ r = (refl, refl)
 
 -- an image is not refused exactly where its header is right, its length is that of its shape, its events are legal and replay may start
 pub verdict-valid : (image : List ℕ) → Bytes image → ValidTrace image ↔ (images.Headers.Headed image × any.Replayable (systemOf image) (shapeOf image) image)

@@ -1,2 +1,3 @@
--- The claims of `docs/CLAIMS.md`, in the order of its three demands.
+-- The claims of `docs/CLAIMS.md`: its three demands, then those of document 02's requests.
 pub mod Claims
+pub mod Comparing
