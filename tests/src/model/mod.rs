@@ -100,7 +100,8 @@ pub fn compare(first: &[u8], second: &[u8], row: &mut [u32], count: &mut u32) ->
 }
 
 /// Answers the longer trace, 1 if neither is; `part` takes the place and the length of its part
-/// past the shorter's length.
+/// past the shorter's length. A call, as the archive's is, so that `bench/` times the two alike.
+#[inline(never)]
 pub fn rest(first: &[u8], second: &[u8], part: &mut [u64; 2]) -> u32 {
     let (trace, answer) = compare::rest(first, second);
     *part = answer;
