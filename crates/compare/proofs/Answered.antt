@@ -1,18 +1,18 @@
 -- Laws of comparing's answer, with the row after it: a verdict that refuses, 12, and what is listed.
-use mathlib.Core.Path.{_≡_, refl, sym, ap, ap₂, _∙_}
+use mathlib.Core.Path.{_≡_, refl, sym, ap₂, _∙_}
 use mathlib.Core.Bool.{Bool, _||_}
-use mathlib.Core.List.{List, _++_}
+use mathlib.Core.List.{List}
 use Prim.Native.Nat.{ℕ, _≤_, _<_}
 use native.Mathlib.Nat.{zero-add}
 use borrow.Author.Tests.{lt-ltb, le-ltb}
-use lib.ListN.{length, drop}
+use lib.ListN.{length}
 use Rattle.word.specs.Part.{put}
 use Rattle.refusal.specs.declared.Refusal.{Refusal}
 use Rattle.refusal.specs.declared.Trace.the-variants.{First, Second}
-use Rattle.refusal.specs.Refusals.{Answer, refusedIn, refused, given, refusal, _andThen_, after}
+use Rattle.refusal.specs.Refusals.{Answer, refusedIn, refused, given, refusal, _andThen_}
 use Rattle.refusal.proofs.Answers.{refused-given, both-passed}
 use Rattle.compare.specs.Places.{differences}
-use Rattle.compare.specs.Comparing.{lengthsVerdict, traceVerdict, tracesVerdict, listed, compareAnswer, compareRow}
+use Rattle.compare.specs.Comparing.{lengthsVerdict, traceVerdict, tracesVerdict, compareAnswer, compareRow}
 
 -- two tests that calls made
 pub either : {a b r s t : Bool} → r ≡ a → s ≡ b → r || s ≡ t → a || b ≡ t

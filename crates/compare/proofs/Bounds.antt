@@ -1,23 +1,23 @@
 -- The numbers of comparing's answer fit 32 bits: a refusal's place, and how many places differ.
-use mathlib.Core.Path.{_≡_, sym, ap, subst, _∙_}
-use mathlib.Core.Bool.{Bool, _||_}
+use mathlib.Core.Path.{_≡_}
+use mathlib.Core.Bool.{_||_}
 use mathlib.Core.List.{List}
 use Prim.Native.Nat.{ℕ, zero, suc, _≤_}
-use native.Mathlib.Nat.{le-refl, le-trans}
+use native.Mathlib.Nat.{le-refl}
 use native.Mathlib.Omega.{arith}
 use lib.Dec.{ltb}
 use lib.ListN.{length}
 use Rattle.word.proofs.Branches.{cond-cases}
 use Rattle.refusal.specs.declared.Trace.{Trace}
 use Rattle.refusal.specs.declared.Trace.the-variants.{First, Second}
-use Rattle.refusal.specs.Refusals.{Answer, refused, given, Placed, _andThen_}
+use Rattle.refusal.specs.Refusals.{given, Placed}
 use Rattle.refusal.proofs.Answers.{passed, both-passed, placed-test, placed-in, placed-then}
 use Rattle.image.specs.Editions.{base}
 use Rattle.image.specs.Header.{maxEvents}
 use Rattle.image.specs.Verdicts.{eventsVerdict}
 use Rattle.image.proofs.Bounds.{events-placed}
 use Rattle.compare.specs.Places.{eventsIn, sameAt, differing, shared, differences}
-use Rattle.compare.specs.Comparing.{badLength, lengthsVerdict, traceVerdict, tracesVerdict, listed, compareAnswer}
+use Rattle.compare.specs.Comparing.{badLength, lengthsVerdict, traceVerdict, tracesVerdict, compareAnswer}
 use Rattle.compare.proofs.Fit.{lengths-few, shared-few}
 
 -- there are no more differences than places

@@ -3,7 +3,7 @@ use mathlib.Core.Path.{_≡_, sym, ap, _∙_}
 use mathlib.Core.Logic.{_↔_}
 use mathlib.Core.Bool.{Bool, true, false, not, _||_}
 use mathlib.Core.List.{List}
-use Prim.Native.Nat.{ℕ, _+_, _*_, _/_, _%_, _≤_, _<_}
+use Prim.Native.Nat.{ℕ, _*_, _%_, _≤_, _<_}
 use native.Mathlib.Nat.{zero-add}
 use native.Mathlib.Omega.{arith}
 use borrow.Author.Tests.{ltb-false, le-ltb, eqb-true, eq-eqb, not-false}
@@ -15,7 +15,7 @@ use Rattle.snapshot.specs.EventBytes.{legalEvent}
 use Rattle.refusal.specs.declared.Trace.{Trace}
 use Rattle.refusal.specs.declared.Trace.the-variants.{First, Second}
 use Rattle.refusal.specs.Refusals.{given, inTrace}
-use Rattle.refusal.proofs.Answers.{passed, pass, none-of, in-passed, both-passed}
+use Rattle.refusal.proofs.Answers.{passed, none-of, in-passed, both-passed}
 use Rattle.replay.proofs.Scan.{legalAt}
 use Rattle.image.specs.Editions.{base}
 use Rattle.image.specs.Header.{maxEvents}

@@ -7,7 +7,7 @@ pub mod Fit
 pub mod Symmetry
 pub mod Stamps
 pub mod Nights
-mod Second
+mod Checked
 mod Answered
 pub mod Bounds
 pub mod Remaining

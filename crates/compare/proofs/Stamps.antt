@@ -1,5 +1,5 @@
 -- Stamps have no say in comparing: with others, on either side, the answer and the row are the same.
-use mathlib.Core.Path.{_≡_, refl, sym, ap, ap₂, subst, _∙_}
+use mathlib.Core.Path.{_≡_, ap, ap₂, _∙_}
 use mathlib.Core.Bool.{Bool, cond, not, _||_}
 use mathlib.Core.List.{List, _++_}
 use Prim.Native.Nat.{ℕ, _+_, _*_, _/_, _%_, _<_}
@@ -7,20 +7,18 @@ use native.Mathlib.Nat.{zero-add}
 use native.Mathlib.Omega.{arith}
 use lib.Dec.{eqb, ltb}
 use lib.ListN.{length, drop}
-use Rattle.word.specs.Part.{part}
 use Rattle.snapshot.specs.Widths.{eventSize}
-use Rattle.snapshot.specs.EventBytes.{legalEvent}
 use Rattle.snapshot.proofs.Stamp.{event-stamp, legal-stamp}
 use Rattle.refusal.specs.declared.Trace.{Trace}
 use Rattle.refusal.specs.declared.Trace.the-variants.{First, Second}
-use Rattle.refusal.specs.Refusals.{Answer, refused, given, inTrace, _andThen_, after}
+use Rattle.refusal.specs.Refusals.{Answer, refused, given, inTrace, after}
 use Rattle.replay.specs.Events.{firstIllegal}
 use Rattle.replay.proofs.Scan.{legalAt, scan-same}
 use Rattle.image.specs.Editions.{base}
 use Rattle.image.specs.Header.{maxEvents}
 use Rattle.image.specs.Verdicts.{eventsVerdict}
 use Rattle.compare.specs.Places.{eventsIn, differences, SameButStamps}
-use Rattle.compare.specs.Comparing.{badLength, lengthsVerdict, traceVerdict, tracesVerdict, listed, compareAnswer, compareRow}
+use Rattle.compare.specs.Comparing.{badLength, lengthsVerdict, traceVerdict, tracesVerdict, compareAnswer, compareRow}
 use Rattle.compare.proofs.Unique.{SameEvents, differences-same}
 
 -- ---- one trace

@@ -30,6 +30,7 @@ lengthsVerdict first second = cond (badLength first || badLength second) (refuse
 unfoldable pub traceVerdict : Trace → List ℕ → Answer Unit
 traceVerdict t trace = inTrace t (eventsVerdict base 5 trace 0 (eventsIn trace))
 
+-- 9, then 5 of the first trace, then 5 of the second
 unfoldable pub tracesVerdict : List ℕ → List ℕ → Answer Unit
 tracesVerdict first second = lengthsVerdict first second andThen traceVerdict First first andThen traceVerdict Second second
 

@@ -8,7 +8,7 @@ use refusal::Verdict;
 use snapshot::EVENT_SIZE;
 ghost use mathlib.Core.Path.{_≡_};
 ghost use Prim.Native.Nat.{_≤_};
-ghost use Rattle.refusal.specs.declared.Trace.the-variants.{First, Second};
+ghost use Rattle.refusal.specs.declared.Trace.the-variants.{First};
 ghost use Rattle.refusal.specs.Refusals.{given, verdictOf, _andThen_};
 ghost use Rattle.image.specs.Editions.{base};
 ghost use Rattle.image.specs.Verdicts.{eventsVerdict};
@@ -32,14 +32,15 @@ fn lengths_verdict(first: &[u8], second: &[u8]) -> Verdict
     Verdict::Accepted
 }
 
-// Refusal 5, of one of two traces.
-fn trace_verdict(t: Trace, trace: &[u8]) -> Verdict
+// Refusal 5 of one of two traces, whose first count events are legal.
+pub fn trace_verdict(t: Trace, trace: &[u8], count: usize) -> Verdict
+    requires { ⌜ (count ≤ eventsIn (now trace)) × (eventsVerdict base 5 (now trace) 0 count ≡ given tt) ⌝ }
     ensures { λ r. ⌜ verdictOf r ≡ traceVerdict t (now (trace .entry)) ⌝ }
 {
-    let count = trace.len() / EVENT_SIZE;
-    let i = first_illegal(Edition::Base, trace, 0, count);
-    if i < count {
-        return Verdict::Refused(Refusal::TraceEvent(t, i));
+    let left = trace.len() / EVENT_SIZE - count;
+    let i = first_illegal(Edition::Base, trace, count * EVENT_SIZE, left);
+    if i < left {
+        return Verdict::Refused(Refusal::TraceEvent(t, count + i));
     }
     Verdict::Accepted
 }
@@ -51,19 +52,6 @@ pub fn first_verdict(first: &[u8], second: &[u8]) -> Verdict
     let of_lengths = lengths_verdict(first, second);
     match of_lengths {
         Verdict::Refused(_) => of_lengths,
-        Verdict::Accepted => trace_verdict(Trace::First, first),
+        Verdict::Accepted => trace_verdict(Trace::First, first, 0),
     }
-}
-
-// Refusal 5 of the second trace, whose first count events are legal.
-pub fn tail_verdict(second: &[u8], count: usize) -> Verdict
-    requires { ⌜ (count ≤ eventsIn (now second)) × (eventsVerdict base 5 (now second) 0 count ≡ given tt) ⌝ }
-    ensures { λ r. ⌜ verdictOf r ≡ traceVerdict Second (now (second .entry)) ⌝ }
-{
-    let left = second.len() / EVENT_SIZE - count;
-    let i = first_illegal(Edition::Base, second, count * EVENT_SIZE, left);
-    if i < left {
-        return Verdict::Refused(Refusal::TraceEvent(Trace::Second, count + i));
-    }
-    Verdict::Accepted
 }

@@ -1,10 +1,11 @@
 // Two traces side by side: the places where they differ, into a lent row, and the rest of the longer.
 use crate::check::first_verdict;
-use crate::check::tail_verdict;
+use crate::check::trace_verdict;
 use crate::places::count_differences;
 use crate::places::write_differences;
 use crate::rest::shorter;
 use refusal::Refusal;
+use refusal::Trace;
 use refusal::Verdict;
 use snapshot::EVENT_SIZE;
 ghost use mathlib.Core.Path.{_≡_};
@@ -47,7 +48,7 @@ fn compare_second(first: &[u8], second: &[u8], row: &mut [u32]) -> Comparison
     let count = shorter(first.len() / EVENT_SIZE, second.len() / EVENT_SIZE);
     match count_differences(first, second, count) {
         Comparison::Refused(r) => Comparison::Refused(r),
-        Comparison::Listed(n) => match tail_verdict(second, count) {
+        Comparison::Listed(n) => match trace_verdict(Trace::Second, second, count) {
             Verdict::Refused(r) => Comparison::Refused(r),
             Verdict::Accepted => list(first, second, count, n, row),
         },

@@ -19,7 +19,7 @@ ghost use Rattle.refusal.specs.declared.Trace.the-variants.{First, Second};
 ghost use Rattle.refusal.specs.Refusals.{given, inTrace, _andThen_};
 ghost use Rattle.image.specs.Editions.{base};
 ghost use Rattle.image.specs.Verdicts.{eventsVerdict};
-ghost use Rattle.compare.specs.Places.{sameAt, differing, shared};
+ghost use Rattle.compare.specs.Places.{differing, shared};
 ghost use Rattle.compare.specs.Comparing.{traceVerdict, tracesVerdict, comparisonOf};
 
 // Whether the events at place i have the same 8 bytes before their stamps: of legal ones, the same kind, sub and value.

@@ -2,7 +2,6 @@
 use refusal::Trace;
 ghost use mathlib.Core.Path.{_≡_};
 ghost use Prim.Native.Nat.{min};
-ghost use lib.ListN.{length};
 ghost use denote.Ref.{ptr};
 ghost use Rattle.compare.specs.Rest.{longer, choose, past, restTrace, restPlace, restOf};
 

@@ -13,7 +13,7 @@ use Rattle.image.specs.Editions.{base}
 use Rattle.image.specs.Verdicts.{eventsVerdict}
 use Rattle.compare.specs.Places.{eventsIn, differing}
 use Rattle.compare.specs.Comparing.{traceVerdict, tracesVerdict, comparisonOf}
-use Rattle.compare.proofs.Second.{part-refused, part-passed}
+use Rattle.compare.proofs.Checked.{part-refused, part-passed}
 use Rattle.compare.proofs.Answered.{first-passed, front-passed, not-compared}
 use Rattle.compare.proofs.compare_second.Statement.{statement}
 use Rattle.compare.proofs.compare_second.Tie as tie
@@ -56,8 +56,8 @@ enum-known-r c = search needs
 enum-known-n : tie.Need-enum-known-n
 enum-known-n c = search needs
 
-tail-verdict-requires : tie.Need-tail-verdict-requires
-tail-verdict-requires c κs = (within (c .before .before .before), counts c .checked)
+trace-verdict-requires : tie.Need-trace-verdict-requires
+trace-verdict-requires c κs = (within (c .before .before .before), counts c .checked)
 
 enum-known-r-2 : tie.Need-enum-known-r-2
 enum-known-r-2 c = search needs
@@ -70,7 +70,7 @@ list-requires c κs =
     let passed = c .before .before .before in
     let matched = passed .before in
     let asked = matched .before .before .before in
-    let accepted = accepted-answer _ _ (passed .tail-verdict .ensures) (c .before .enum-told .given .1) in
+    let accepted = accepted-answer _ _ (passed .trace-verdict .ensures) (c .before .enum-told .given .1) in
     ((sym (only-second asked) ∙ accepted, asked .before .shorter .ensures), counts matched .counted)
 
 returns : tie.Need-returns
@@ -84,7 +84,7 @@ returns-2 : tie.Need-returns-2
 returns-2 c =
     let tail = c .before .before .before in
     let asked = tail .before .before .before .before in
-    not-compared _ _ _ (c .before .r2 .given .0 .0) (sym (ap verdictOf (c .before .r2 .given .1)) ∙ tail .tail-verdict .ensures ∙ only-second asked)
+    not-compared _ _ _ (c .before .r2 .given .0 .0) (sym (ap verdictOf (c .before .r2 .given .1)) ∙ tail .trace-verdict .ensures ∙ only-second asked)
 
 same-length : tie.Need-same-length
 same-length c = search needs
@@ -100,7 +100,7 @@ compare-second-spec =
     count-differences-requires
     enum-known-r
     enum-known-n
-    tail-verdict-requires
+    trace-verdict-requires
     enum-known-r-2
     enum-told
     list-requires

@@ -4,7 +4,7 @@ use mathlib.Core.Path.{sym, ap, subst, _∙_}
 use Prim.Native.Nat.{_+_, _*_, _^_, _<_}
 use native.Mathlib.Omega.{arith}
 use Rattle.refusal.specs.declared.Verdict.{Verdict}
-use Rattle.refusal.specs.Refusals.{numberOf, traceOf, placeOf, verdictOf, statusOf, Placed}
+use Rattle.refusal.specs.Refusals.{placeOf, verdictOf, statusOf, Placed}
 use Rattle.refusal.proofs.Answers.{number-range, trace-range}
 use Rattle.refusal.proofs.status_of.Statement.{statement}
 use Rattle.refusal.proofs.status_of.Tie as tie

@@ -1,6 +1,8 @@
 -- `compare::check::first_verdict` meets its contract: the first of the two verdicts that refuses is the answer.
 use borrow.Author.Needs.{needs}
+use native.Mathlib.Omega.{arith}
 use Rattle.refusal.proofs.Answers.{refused-first, accepted-then}
+use Rattle.compare.proofs.Checked.{none-refused}
 use Rattle.compare.proofs.check.first_verdict.Statement.{statement}
 use Rattle.compare.proofs.check.first_verdict.Tie as tie
 
@@ -14,7 +16,7 @@ enum-told-2 : tie.Need-enum-told-2
 enum-told-2 c = search needs
 
 trace-verdict-requires : tie.Need-trace-verdict-requires
-trace-verdict-requires c κs = search needs
+trace-verdict-requires c κs = (omega arith, none-refused _)
 
 returns : tie.Need-returns
 returns c = refused-first _ _ (c .before .before .lengths-verdict .ensures) _ (c .enum-told .given .1) _

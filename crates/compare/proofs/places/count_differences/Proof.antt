@@ -17,7 +17,7 @@ use Rattle.compare.specs.Places.{sameAt, differing}
 use Rattle.compare.proofs.Differing.{from, from-first, count-same, count-other, count-end}
 use Rattle.compare.proofs.Events.{bytesAt, fronts-same}
 use Rattle.compare.proofs.Fit.{at-first, verdict-legal, inside-both}
-use Rattle.compare.proofs.Second.{check-stops, check-ends}
+use Rattle.compare.proofs.Checked.{check-stops, check-ends}
 use Rattle.compare.proofs.places.count_differences.Statement.{statement}
 use Rattle.compare.proofs.places.count_differences.Tie as tie
 

@@ -1,4 +1,4 @@
--- The second trace is checked in two parts, what stands beside the first and what is past it: together they give its verdict.
+-- A trace is checked in two parts, the second one beside the first and past it: together they give its verdict.
 use mathlib.Core.Path.{_≡_, refl, sym, ap, _∙_}
 use mathlib.Core.List.{List}
 use Prim.Native.Nat.{ℕ, _+_, _-_, _*_, _≤_, _<_}
@@ -41,6 +41,11 @@ module _ (trace : List ℕ) (m i x : ℕ) (e : i ≡ firstIllegal base trace 0 0
 
   pub check-ends : m ≤ i → (n : ℕ) → n ≡ x → given n ≡ checked (eventsVerdict base 5 trace 0 m)
   check-ends h n same = ap given same ∙ ap checked (not-found base trace 0 5 m i e h)
+
+-- of no events, none is refused
+pub none-refused : (trace : List ℕ) → eventsVerdict base 5 trace 0 0 ≡ given tt
+unfolding eventsVerdict firstIllegal
+none-refused trace = refl
 
 -- ---- the whole trace
 
