@@ -1,17 +1,17 @@
 -- Stamps have no say in comparing: with others, on either side, the answer and the row are the same.
 use mathlib.Core.Path.{_≡_, ap, ap₂, _∙_}
 use mathlib.Core.Bool.{Bool, cond, not, _||_}
-use mathlib.Core.List.{List, _++_}
-use Prim.Native.Nat.{ℕ, _+_, _*_, _/_, _%_, _<_}
+use mathlib.Core.List.{List}
+use Prim.Native.Nat.{ℕ, _*_, _/_, _%_, _<_}
 use native.Mathlib.Nat.{zero-add}
 use native.Mathlib.Omega.{arith}
 use lib.Dec.{eqb, ltb}
-use lib.ListN.{length, drop}
+use lib.ListN.{length}
 use Rattle.snapshot.specs.Widths.{eventSize}
 use Rattle.snapshot.proofs.Stamp.{event-stamp, legal-stamp}
 use Rattle.refusal.specs.declared.Trace.{Trace}
 use Rattle.refusal.specs.declared.Trace.the-variants.{First, Second}
-use Rattle.refusal.specs.Refusals.{Answer, refused, given, inTrace, after}
+use Rattle.refusal.specs.Refusals.{refused, given, inTrace}
 use Rattle.replay.specs.Events.{firstIllegal}
 use Rattle.replay.proofs.Scan.{legalAt, scan-same}
 use Rattle.image.specs.Editions.{base}
@@ -60,5 +60,4 @@ module _ (a b c d : List ℕ) (s : SameButStamps a b) (t : SameButStamps c d) wh
 
   pub row-stamps : (row : List ℕ) → compareRow a c row ≡ compareRow b d row
   unfolding compareRow
-  row-stamps row =
-      ap₂ (λ (x : Answer ℕ) (l : List ℕ). after x row (λ n. l ++ drop n row)) (compare-stamps (length row)) listed-same
+  row-stamps row = rw (compare-stamps (length row), listed-same)

@@ -25,10 +25,10 @@ enum-told : tie.Need-enum-told
 enum-told c = search needs
 
 sub-result : tie.Need-sub-result
-sub-result c = longer-first _ _ (first-found c)
+sub-result c = omega (arith, longer-first _ _ (first-found c))
 
 part-result-start : tie.Need-part-result-start
-part-result-start c = longer-first _ _ (first-found c)
+part-result-start c = omega (arith, longer-first _ _ (first-found c))
 
 part-result-end : tie.Need-part-result-end
 part-result-end c = search needs
