@@ -133,7 +133,7 @@ fn nights() {
 }
 
 fn main() {
-    println!("library: {UNDER_TEST_NAME}; model: the model of document 01");
+    println!("library: {UNDER_TEST_NAME}; model: the model of the documents");
     println!("columns: the library's and the model's median of {ROUNDS} rounds, then library/model twice:");
     println!("the median of the rounds' ratios, and the ratio of the two least times");
     println!("buffers are warm: both sides work on one image, and each ran once before the timing;");
