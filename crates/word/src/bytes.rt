@@ -1,7 +1,7 @@
 // Little-endian numbers in a lent slice: read or written at a byte offset.
 use crate::sign;
 ghost use mathlib.Core.Path.{_≡_};
-ghost use Prim.Native.Nat.{_+_, _≤_};
+ghost use Prim.Native.Nat.{_+_, _*_, _≤_};
 ghost use lib.ListN.{length};
 ghost use mir.Syntax.{w16, w32};
 ghost use Rattle.word.specs.Part.{put};
@@ -12,6 +12,13 @@ fn wide(b: u8) -> u32
     ensures { λ r. ⌜ r ≡ b ⌝ }
 {
     b as u32
+}
+
+// The number that has these halves.
+fn joined(low: u32, high: u32) -> u64
+    ensures { λ r. ⌜ r ≡ low + 4294967296 * high ⌝ }
+{
+    (low as u64) + 4294967296 * (high as u64)
 }
 
 // Writes the lowest `width` bytes of v from byte at.
@@ -47,7 +54,7 @@ pub fn read_u64(s: &[u8], at: usize) -> u64
     requires { ⌜ at + 8 ≤ length (now s) ⌝ }
     ensures { λ r. ⌜ r ≡ numberAt (now (s .entry)) at 8 ⌝ }
 {
-    (read_u32(s, at) as u64) + 4294967296 * (read_u32(s, at + 4) as u64)
+    joined(read_u32(s, at), read_u32(s, at + 4))
 }
 
 pub fn read_i16(s: &[u8], at: usize) -> i16
