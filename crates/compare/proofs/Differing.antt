@@ -8,12 +8,8 @@ use native.Mathlib.Numerals.{add-one}
 use native.Mathlib.Omega.{arith}
 use lib.ListN.{length, set}
 use Rattle.word.specs.Part.{put}
-use Rattle.word.proofs.Put.{set-put, put-put, put-nil}
+use Rattle.word.proofs.Put.{put-nil, put-next}
 use Rattle.compare.specs.Places.{sameAt, differing}
-
--- a number written before the rest of a list
-pub put-next : (row : List ℕ) (k v : ℕ) (rest : List ℕ) → k < length row → put (set row k v) (k + 1) rest ≡ put row k (v ∷ rest)
-put-next row k v rest h = ap (λ (l : List ℕ). put l (k + 1) rest) (set-put row k v h) ∙ put-put row k (v ∷ []) rest (omega arith)
 
 pub empty : (l : List ℕ) → length l ≡ 0 → l ≡ []
 empty [] e = refl
@@ -27,7 +23,7 @@ module _ (first second : List ℕ) (count : ℕ) where
   pub from-first : from 0 ≡ differing first second 0 count
   from-first = ap (differing first second 0) (omega arith)
 
-  pub from-last : (i : ℕ) → count ≤ i → from i ≡ []
+  from-last : (i : ℕ) → count ≤ i → from i ≡ []
   unfolding differing
   from-last i h = let none : count - i ≡ 0 = omega arith in rw none
 
@@ -35,11 +31,11 @@ module _ (first second : List ℕ) (count : ℕ) where
     more : count - i ≡ suc (count - (i + 1))
     more = omega arith
 
-    pub from-same : sameAt first second i ≡ true → from i ≡ from (i + 1)
+    from-same : sameAt first second i ≡ true → from i ≡ from (i + 1)
     unfolding differing
     from-same e = rw (more, e, add-one i)
 
-    pub from-other : sameAt first second i ≡ false → from i ≡ i ∷ from (i + 1)
+    from-other : sameAt first second i ≡ false → from i ≡ i ∷ from (i + 1)
     unfolding differing
     from-other e = rw (more, e, add-one i)
 

@@ -85,6 +85,10 @@ module _ {A : Type 0} where
   unfolding put
   set-put l at v h = rw (add-one, set-split l at v)
 
+  -- and the rest beside it: one write
+  pub put-next : (l : List A) (at : ℕ) (v : A) (rest : List A) → at < length l → put (set l at v) (at + 1) rest ≡ put l at (v ∷ rest)
+  put-next l at v rest h = ap (λ (m : List A). put m (at + 1) rest) (set-put l at v h) ∙ put-put l at (v ∷ []) rest (omega arith)
+
   -- ---- a copy, one element at a time
 
   pub put-more : (l : List A) (at : ℕ) (bs : List A) (i : ℕ) (d : A) → i < length bs → at + length bs ≤ length l

@@ -1,14 +1,14 @@
 -- `word::bytes::write_number` meets its contract. At each iteration, writing the bytes that are left gives the goal: the byte written and
 -- the rest beside it are one write.
 use mathlib.Core.Path.{_≡_, refl, sym, _∙_}
-use mathlib.Core.List.{List, [], _∷_}
+use mathlib.Core.List.{List}
 use Prim.Native.Nat.{ℕ, suc, _+_, _-_, _/_, _%_, _≤_, _<_}
 use native.Mathlib.Nat.{add-zero, sub-zero, add-assoc}
 use native.Mathlib.Omega.{arith}
 use lib.ListN.{length, set, length-set}
 use Rattle.word.specs.Part.{put}
 use Rattle.word.specs.LittleEndian.{toBytes}
-use Rattle.word.proofs.Put.{put-put, put-nil, set-put}
+use Rattle.word.proofs.Put.{put-nil, put-next}
 use Rattle.word.proofs.bytes.write_number.Statement.{statement}
 use Rattle.word.proofs.bytes.write_number.Tie as tie
 
@@ -27,8 +27,7 @@ next : (s : List ℕ) (at width i rest : ℕ) → at + width ≤ length s → i 
 unfolding toBytes
 next s at width i rest fits h =
     let left : width - i ≡ suc (width - (i + 1)) = omega arith in
-    let tail : List ℕ = toBytes (width - (i + 1)) (rest / 256) in
-    rw (left, set-put s (at + i) (rest % 256) (omega arith), ← add-assoc at i 1) (put-put s (at + i) (rest % 256 ∷ []) tail (omega arith))
+    rw (left, ← add-assoc at i 1) (put-next s (at + i) (rest % 256) (toBytes (width - (i + 1)) (rest / 256)) (omega arith))
 
 -- none are left
 done : (s : List ℕ) (at width i rest : ℕ) → width ≡ i → put s (at + i) (toBytes (width - i) rest) ≡ s
