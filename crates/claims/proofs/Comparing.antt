@@ -13,12 +13,12 @@ use Rattle.replay.specs.Image.{Shape, snapshotPlace, event}
 use Rattle.replay.specs.Events.{run}
 use Rattle.replay.specs.Replay as any
 use Rattle.image.specs.Header.{headerSize, maxEvents, snapshotOffset}
+use Rattle.image.specs.Rows.{eventArea}
 use Rattle.image.specs.Verdicts.{ValidTrace}
 use Rattle.image_replay.specs.Replays.{replayImage, replayLast}
 use Rattle.compare.specs.Places.{differences, _∈_, Rising, DiffersAt, SameButStamps}
 use Rattle.compare.specs.Comparing.{tracesVerdict, compareAnswer, compareRow}
 use Rattle.compare.specs.Rest.{choose, past, restTrace, restPlace, restOf}
-use Rattle.compare.specs.Nights.{eventArea}
 use Rattle.replay.proofs as replay
 use Rattle.compare.proofs as compare
 

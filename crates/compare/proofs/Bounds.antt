@@ -14,9 +14,10 @@ use Rattle.refusal.specs.Refusals.{given, Placed}
 use Rattle.refusal.proofs.Answers.{passed, both-passed, placed-test, placed-in, placed-then}
 use Rattle.image.specs.Editions.{base}
 use Rattle.image.specs.Header.{maxEvents}
+use Rattle.image.specs.Rows.{eventsIn}
 use Rattle.image.specs.Verdicts.{eventsVerdict}
 use Rattle.image.proofs.Bounds.{events-placed}
-use Rattle.compare.specs.Places.{eventsIn, sameAt, differing, shared, differences}
+use Rattle.compare.specs.Places.{sameAt, differing, shared, differences}
 use Rattle.compare.specs.Comparing.{badLength, lengthsVerdict, traceVerdict, tracesVerdict, compareAnswer}
 use Rattle.compare.proofs.Fit.{lengths-few, shared-few}
 

@@ -14,10 +14,10 @@ use Rattle.refusal.proofs.Answers.{refused-given, in-passed, both-passed}
 use Rattle.replay.specs.Events.{firstIllegal}
 use Rattle.replay.proofs.Scan.{scan-none, scan-first, scan-past, scan-shift}
 use Rattle.image.specs.Editions.{base}
+use Rattle.image.specs.Rows.{eventsIn}
 use Rattle.image.specs.Verdicts.{eventsVerdict}
 use Rattle.image.proofs.Accepted as scan
 use Rattle.image.proofs.Accepted.{all-legal, not-found}
-use Rattle.compare.specs.Places.{eventsIn}
 use Rattle.compare.specs.Comparing.{traceVerdict}
 
 -- ---- a check, and a number that is given after it

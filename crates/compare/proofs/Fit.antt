@@ -19,9 +19,10 @@ use Rattle.refusal.proofs.Answers.{passed, none-of, in-passed, both-passed}
 use Rattle.replay.proofs.Scan.{legalAt}
 use Rattle.image.specs.Editions.{base}
 use Rattle.image.specs.Header.{maxEvents}
+use Rattle.image.specs.Rows.{eventsIn}
 use Rattle.image.specs.Verdicts.{eventsVerdict}
 use Rattle.image.proofs.Accepted.{all-legal, legal-all}
-use Rattle.compare.specs.Places.{eventsIn, shared}
+use Rattle.compare.specs.Places.{shared}
 use Rattle.compare.specs.Comparing.{badLength, lengthsVerdict, traceVerdict, tracesVerdict}
 use Rattle.compare.proofs.Events.{Inside}
 

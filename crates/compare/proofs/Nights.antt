@@ -1,12 +1,11 @@
 -- Two valid images of one header whose event areas differ nowhere replay to the same table, byte for byte, and to the same final state.
 use mathlib.Core.Path.{_≡_, refl, sym, ap, ap₂, subst, _∙_}
 use mathlib.Core.List.{List}
-use Prim.Native.Nat.{ℕ, _+_, _*_, _≤_, _<_}
+use Prim.Native.Nat.{ℕ, _*_, _<_}
 use native.Mathlib.Nat.{zero-mul}
 use native.Mathlib.Omega.{arith}
-use lib.ListN.{length, take, drop}
-use Rattle.word.specs.Part.{Bytes, part}
-use Rattle.word.proofs.Part.{length-part, part-part}
+use lib.ListN.{take, drop}
+use Rattle.word.specs.Part.{Bytes}
 use Rattle.counter.specs.Events.{step}
 use Rattle.snapshot.specs.declared.event.Event.{Event}
 use Rattle.snapshot.specs.Widths.{eventSize}
@@ -21,14 +20,15 @@ use Rattle.image.specs.declared.edition.Edition.{Edition}
 use Rattle.image.specs.declared.edition.Edition.the-variants.{Base}
 use Rattle.image.specs.Editions.{system}
 use Rattle.image.specs.Header.{headerSize, eventCount, snapshotOffset, shapeOf, editionOf, systemOf}
+use Rattle.image.specs.Rows.{eventArea}
 use Rattle.image.specs.Verdicts.{ValidTrace}
 use Rattle.image.proofs.Laws.{laws}
 use Rattle.image.proofs.Headers.{shape-same, edition-same}
-use Rattle.image.proofs.Accepted.{Passed, trace-passed, trace-replayable}
+use Rattle.image.proofs.Accepted.{trace-passed, trace-replayable}
+use Rattle.image.proofs.Rows.{area-length, area-count, area-part}
 use Rattle.image_replay.specs.Replays.{finalSnapshot, replayImage, replayLast}
 use Rattle.image_replay.proofs.Theorem.{replayed-same, replay-image}
-use Rattle.compare.specs.Places.{eventsIn, eventAt, differences}
-use Rattle.compare.specs.Nights.{eventArea}
+use Rattle.compare.specs.Places.{eventAt, differences}
 use Rattle.compare.specs.Comparing.{compareAnswer}
 use Rattle.compare.proofs.Differing.{empty}
 use Rattle.compare.proofs.Unique.{none-differs}
@@ -52,28 +52,15 @@ legal-alike Base e = refl
 -- ---- the event area of a valid image
 
 module _ (image : List ℕ) (v : ValidTrace image) where
-  passes : Passed image
-  passes = trace-passed image v
-
-  area-within : headerSize + eventCount image * eventSize ≤ length image
-  area-within = omega (arith, passes .whole, passes .header .offsets .table)
-
-  area-count : eventsIn (eventArea image) ≡ eventCount image
-  area-count = omega (arith, length-part image headerSize (eventCount image * eventSize) area-within)
-
-  area-part : (i : ℕ) → i < eventCount image
-      → part (eventArea image) (i * eventSize) eventSize ≡ part image (headerSize + i * eventSize) eventSize
-  area-part i h = part-part image headerSize (eventCount image * eventSize) (i * eventSize) eventSize area-within (omega arith)
-
   -- comparing refuses no such area by 9 or 5
   pub area-fit : Fit (eventArea image)
   area-fit =
       record {
-        whole = length-part image headerSize (eventCount image * eventSize) area-within ∙ ap (λ (n : ℕ). n * eventSize) (sym area-count);
-        few = rw area-count (passes .header .limits .few);
+        whole = area-length image v ∙ ap (λ (n : ℕ). n * eventSize) (sym (area-count image v));
+        few = rw (area-count image v) (trace-passed image v .header .limits .few);
         legal = λ i h.
-            let inside : i < eventCount image = rw (← area-count) h in
-            ap legalEvent (area-part i inside) ∙ sym (legal-alike (editionOf image) _) ∙ passes .legal i inside;
+            let inside : i < eventCount image = rw (← area-count image v) h in
+            ap legalEvent (area-part image v i inside) ∙ sym (legal-alike (editionOf image) _) ∙ trace-passed image v .legal i inside;
       }
 
 -- ---- two nights
@@ -113,7 +100,7 @@ module _ (a b : List ℕ) (same : take headerSize a ≡ take headerSize b) (byte
   start-same = one-start (editionOf a) (snapshot S g a 0) (snapshot S g b 0)
 
   place : snapshotOffset a ≡ snapshotPlace S g 0
-  place = passes a v .header .offsets .table ∙ omega (arith, zero-mul (S .size))
+  place = trace-passed a v .header .offsets .table ∙ omega (arith, zero-mul (S .size))
 
   -- the call leaves the same table
   pub same-table : drop (snapshotOffset a) (replayImage a) ≡ drop (snapshotOffset a) (replayImage b)

@@ -16,8 +16,9 @@ use Rattle.replay.specs.Events.{firstIllegal}
 use Rattle.replay.proofs.Scan.{legalAt, scan-same}
 use Rattle.image.specs.Editions.{base}
 use Rattle.image.specs.Header.{maxEvents}
+use Rattle.image.specs.Rows.{eventsIn}
 use Rattle.image.specs.Verdicts.{eventsVerdict}
-use Rattle.compare.specs.Places.{eventsIn, differences, SameButStamps}
+use Rattle.compare.specs.Places.{differences, SameButStamps}
 use Rattle.compare.specs.Comparing.{badLength, lengthsVerdict, traceVerdict, tracesVerdict, compareAnswer, compareRow}
 use Rattle.compare.proofs.Unique.{SameEvents, differences-same}
 

@@ -12,9 +12,10 @@ use Rattle.refusal.specs.declared.Trace.the-variants.{First, Second}
 use Rattle.refusal.specs.Refusals.{Answer, refusedIn, refused, given, inTrace, _andThen_}
 use Rattle.refusal.proofs.Answers.{refused-given}
 use Rattle.image.specs.Editions.{base}
+use Rattle.image.specs.Rows.{eventsIn}
 use Rattle.image.specs.Verdicts.{eventsVerdict}
 use Rattle.replay.specs.Events.{firstIllegal}
-use Rattle.compare.specs.Places.{eventsIn, differences}
+use Rattle.compare.specs.Places.{differences}
 use Rattle.compare.specs.Comparing.{badLength, lengthsVerdict, traceVerdict, tracesVerdict, listed, compareAnswer}
 use Rattle.compare.proofs.Unique.{differences-self, differences-exchanged}
 use Rattle.compare.proofs.Fit.{Fit, fit-traces}

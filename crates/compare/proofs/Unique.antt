@@ -6,7 +6,8 @@ use mathlib.Core.Bool.{Bool, true, false, false≢true}
 use mathlib.Core.List.{List, [], _∷_}
 use Prim.Native.Nat.{ℕ, _<_}
 use native.Mathlib.Omega.{arith}
-use Rattle.compare.specs.Places.{eventsIn, eventAt, sameAt, differences, _∈_, Rising, DiffersAt}
+use Rattle.image.specs.Rows.{eventsIn}
+use Rattle.compare.specs.Places.{eventAt, sameAt, differences, _∈_, Rising, DiffersAt}
 use Rattle.compare.proofs.Events.{same-at, at-same}
 use Rattle.compare.proofs.Exact.{listed-exactly, differences-rising}
 

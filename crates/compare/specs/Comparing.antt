@@ -11,8 +11,9 @@ use Rattle.refusal.specs.declared.Trace.the-variants.{First, Second}
 use Rattle.refusal.specs.Refusals.{Answer, refused, given, refusal, inTrace, _andThen_, after}
 use Rattle.image.specs.Editions.{base}
 use Rattle.image.specs.Header.{maxEvents}
+use Rattle.image.specs.Rows.{eventsIn}
 use Rattle.image.specs.Verdicts.{eventsVerdict}
-use Rattle.compare.specs.Places.{eventsIn, differences}
+use Rattle.compare.specs.Places.{differences}
 use Rattle.compare.specs.declared.Comparison.{Comparison}
 use Rattle.compare.specs.declared.Comparison.the-variants.{Refused, Listed}
 

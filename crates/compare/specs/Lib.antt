@@ -2,4 +2,3 @@
 pub mod Places
 pub mod Comparing
 pub mod Rest
-pub mod Nights

@@ -3,7 +3,7 @@ use mathlib.Core.Bool.{Bool, cond, _&&_}
 use mathlib.Core.List.{List, [], _∷_}
 use mathlib.Core.Logic.{_⊎_}
 use mathlib.Core.Path.{_≡_}
-use Prim.Native.Nat.{ℕ, zero, suc, _*_, _/_, _<_, min}
+use Prim.Native.Nat.{ℕ, zero, suc, _*_, _<_, min}
 use lib.Dec.{eqb}
 use lib.ListN.{length, take}
 use Rattle.word.specs.Part.{part}
@@ -11,11 +11,9 @@ use Rattle.word.specs.TwosComplement.{eqZ}
 use Rattle.snapshot.specs.declared.event.Event.{Event}
 use Rattle.snapshot.specs.Widths.{eventSize}
 use Rattle.snapshot.specs.EventBytes.{eventOf}
+use Rattle.image.specs.Rows.{eventsIn}
 
 -- ---- a trace's events
-
-abbrev pub eventsIn : List ℕ → ℕ
-eventsIn trace = length trace / eventSize
 
 -- kind, sub and value of event i
 abbrev pub eventAt : List ℕ → ℕ → Event

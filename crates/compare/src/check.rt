@@ -11,8 +11,8 @@ ghost use Prim.Native.Nat.{_≤_};
 ghost use Rattle.refusal.specs.declared.Trace.the-variants.{First};
 ghost use Rattle.refusal.specs.Refusals.{given, verdictOf, _andThen_};
 ghost use Rattle.image.specs.Editions.{base};
+ghost use Rattle.image.specs.Rows.{eventsIn};
 ghost use Rattle.image.specs.Verdicts.{eventsVerdict};
-ghost use Rattle.compare.specs.Places.{eventsIn};
 ghost use Rattle.compare.specs.Comparing.{badLength, lengthsVerdict, traceVerdict};
 
 // Whether the trace is no row of events, or too long.

@@ -2,5 +2,6 @@
 pub mod Laws
 pub mod Headers
 pub mod Accepted
+pub mod Rows
 pub mod Mendable
 pub mod Bounds

@@ -10,8 +10,9 @@ use Rattle.refusal.specs.declared.Trace.the-variants.{Second}
 use Rattle.refusal.specs.Refusals.{given, verdictOf}
 use Rattle.refusal.proofs.Answers.{accepted-answer}
 use Rattle.image.specs.Editions.{base}
+use Rattle.image.specs.Rows.{eventsIn}
 use Rattle.image.specs.Verdicts.{eventsVerdict}
-use Rattle.compare.specs.Places.{eventsIn, differing}
+use Rattle.compare.specs.Places.{differing}
 use Rattle.compare.specs.Comparing.{traceVerdict, tracesVerdict, comparisonOf}
 use Rattle.compare.proofs.Checked.{part-refused, part-passed}
 use Rattle.compare.proofs.Answered.{first-passed, front-passed, not-compared}

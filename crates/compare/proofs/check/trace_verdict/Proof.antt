@@ -7,8 +7,8 @@ use denote.Ref.{now}
 use Rattle.refusal.specs.Refusals.{inTrace}
 use Rattle.replay.specs.Events.{firstIllegal}
 use Rattle.image.specs.Editions.{base}
+use Rattle.image.specs.Rows.{eventsIn}
 use Rattle.image.proofs.Accepted.{found, not-found}
-use Rattle.compare.specs.Places.{eventsIn}
 use Rattle.compare.specs.Comparing.{traceVerdict}
 use Rattle.compare.proofs.Checked.{found-past}
 use Rattle.compare.proofs.check.trace_verdict.Statement.{statement}
