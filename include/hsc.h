@@ -1,5 +1,5 @@
 /*
- * hsc.h: the trace of a high-speed counter, checked, stepped, replayed, mended and compared.
+ * hsc.h: the trace of a high-speed counter, checked, stepped, drawn, replayed, mended and compared.
  *
  * The calls take numbers and lent buffers and keep nothing from one call to the next. All numbers in the buffers are
  * little-endian.
@@ -29,8 +29,8 @@
  * The version of this header: in words, and as one number, major * 10000 + minor * 100 + patch. A program compares the
  * number with hsc_version() at its start, to see that header and archive belong together.
  */
-#define HSC_VERSION "0.2.0"
-#define HSC_VERSION_NUMBER 200
+#define HSC_VERSION "0.3.0"
+#define HSC_VERSION_NUMBER 300
 
 #define HSC_HEADER_SIZE 24
 #define HSC_EVENT_SIZE 12
@@ -53,8 +53,8 @@ enum hsc_refusal {
     HSC_REFUSED_SNAPSHOT = 6,    /* a snapshot that must be read is not well formed; place: its index */
     HSC_REFUSED_PATCH = 7,       /* patch length not a multiple of 12, or first + n > E; place 0 */
     HSC_REFUSED_PATCH_EVENT = 8, /* illegal event in the patch; place: the first such, in the patch */
-    HSC_REFUSED_SIZE = 9,        /* snapshot not 68 bytes, event not 12, or a trace whose length is not a multiple of 12
-                                    or which has more than 1048576 events; place 0 */
+    HSC_REFUSED_SIZE = 9,        /* snapshot not 68 bytes, event not 12, events not a multiple of 12, a trace of more
+                                    than 1048576 events, or a row that has not one number for each event; place 0 */
     HSC_REFUSED_ROW = 12,        /* the row has no room for all differences; place 0 */
     HSC_REFUSAL_COUNT = 13       /* no call gives 10 or 11 */
 };
@@ -220,6 +220,16 @@ uint32_t hsc_event_check(const uint8_t *event, size_t event_len);
  * Refusals, first that applies: 9, 5, 6, each at place 0.
  */
 uint64_t hsc_step(uint8_t *snapshot, size_t snapshot_len, const uint8_t *event, size_t event_len);
+
+/*
+ * Drawing: takes the events one after another, as so many steps would, writes the accumulator after each into row, and
+ * the snapshot after all of them over the lent one. row_len counts numbers, and is the number of events, which has no
+ * upper bound; none is legal.
+ * Refusals, first that applies: 9 at place 0; 5 for the first illegal event, where a place past 2^32 - 1 stands as
+ * 2^32 - 1; 6 at place 0, also with no events.
+ */
+uint64_t hsc_draw(uint8_t *snapshot, size_t snapshot_len, const uint8_t *events, size_t events_len, int32_t *row,
+                  size_t row_len);
 
 /*
  * Reading: writes the snapshot's numbers, and the bits that are shown but not stored, into fields (enum hsc_field).

@@ -12,10 +12,12 @@ use Rattle.snapshot.specs.FormedBytes.{formed}
 use Rattle.snapshot.specs.EventBytes.{legalEvent, stepEvent}
 use Rattle.image_mend.specs.declared.Span.{Span}
 use Rattle.refusal.specs.Refusals.{Answer, refused, given, traceNumber, statusOf, after, changedIf}
+use Rattle.image.specs.declared.edition.Edition.the-variants.{Base}
 use Rattle.image.specs.Verdicts.{replayVerdict}
 use Rattle.image_mend.specs.Mends.{mendAnswer}
 use Rattle.compare.specs.Comparing.{compareAnswer}
 use Rattle.compare.specs.Rest.{restTrace, restPlace, restOf}
+use Rattle.draw.specs.Drawing.{drawVerdict}
 use Rattle.hsc.specs.Fields.{fieldsOf}
 
 -- ---- event check: 9, else 1 for yes or 0 for no
@@ -40,6 +42,11 @@ stepAnswer snapshot event = statusOf (stepVerdict snapshot event)
 -- the next snapshot over the lent one
 abbrev pub stepAfter : List ℕ → List ℕ → List ℕ
 stepAfter snapshot event = changedIf (stepVerdict snapshot event) snapshot (encode (stepEvent event (decode snapshot)))
+
+-- ---- drawing (document 02, request 2): the snapshot after is `drawSnapshot`, the row `drawRow`
+
+abbrev pub drawStatus : List ℕ → List ℕ → List ℤ → ℕ
+drawStatus snapshot events row = statusOf (drawVerdict Base snapshot events (length row))
 
 -- ---- reading
 

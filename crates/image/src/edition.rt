@@ -13,7 +13,7 @@ ghost use lib.ListN.{length};
 ghost use Rattle.word.specs.Part.{part, put};
 ghost use Rattle.replay.specs.System.{Held};
 ghost use Rattle.snapshot.specs.Widths.{eventSize};
-ghost use Rattle.image.specs.Editions.{system, editionAt, maxSize, maxBeside};
+ghost use Rattle.image.specs.Editions.{system, accOf, editionAt, maxSize, maxBeside};
 
 // The editions, by the header's sixth number.
 pub enum Edition {
@@ -113,6 +113,16 @@ pub fn step(ed: Edition, events: &[u8], at: usize, state: &mut [u8], moving: &mu
 {
     match ed {
         Edition::Base => split::step_over(state, moving, events, at),
+    }
+}
+
+// The state's accumulator.
+pub fn acc(ed: Edition, state: &[u8], moving: &[u8]) -> i32
+    requires { ⌜ Held (system ed) (now state) (now moving) ⌝ }
+    ensures { λ r. ⌜ r ≡ accOf ed (system ed .stateIn (now (state .entry)) (now (moving .entry))) ⌝ }
+{
+    match ed {
+        Edition::Base => split::read_acc(state, moving),
     }
 }
 

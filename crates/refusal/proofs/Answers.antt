@@ -12,7 +12,7 @@ use Rattle.refusal.specs.declared.Refusal.the-variants.{Short, Limits, O
 use Rattle.refusal.specs.declared.Verdict.{Verdict}
 use Rattle.refusal.specs.declared.Verdict.the-variants.{Refused, Accepted}
 use Rattle.refusal.specs.Refusals.{Answer, refusedIn, refused, given, traceNumber, numberOf, traceOf, refusal, verdictOf, statusOf, Placed}
-use Rattle.refusal.specs.Refusals.{inTrace, _andThen_, changedIf}
+use Rattle.refusal.specs.Refusals.{told, inTrace, _andThen_, changedIf}
 
 -- ---- tests in a row
 
@@ -51,6 +51,11 @@ both-passed (given tt) b e = (refl, e)
 pub in-passed : {A : Type 0} {x : A} (t : Trace) (a : Answer A) → inTrace t a ≡ given x → a ≡ given x
 in-passed t (refusedIn n s p) e = absurd (refused-given e)
 in-passed t (given y) e = e
+
+-- nor does one that tells another place
+pub told-passed : {A : Type 0} {x : A} (a : Answer A) → told a ≡ given x → a ≡ given x
+told-passed (refusedIn n t p) e = absurd (refused-given e)
+told-passed (given y) e = e
 
 -- ---- a verdict that the code gave
 
@@ -129,6 +134,10 @@ placed-test false n rest h = h refl
 pub placed-in : {A : Type 0} (t : Trace) (a : Answer A) → Placed a → Placed (inTrace t a)
 placed-in t (refusedIn n s p) h = h
 placed-in t (given x) h = h
+
+pub placed-told : {A : Type 0} (a : Answer A) → Placed (told a)
+placed-told (refusedIn n t p) = omega arith
+placed-told (given x) = tt
 
 pub placed-then : {A : Type 0} (a : Answer Unit) (b : Answer A) → Placed a → (a ≡ given tt → Placed b) → Placed (a andThen b)
 placed-then (refusedIn n t p) b h k = h

@@ -1,5 +1,6 @@
 // The refusals of document 01's table and of document 02, and the verdict on what was lent.
 ghost use mathlib.Core.Path.{_≡_};
+ghost use Prim.Native.Nat.{_-_, _^_, min};
 ghost use Rattle.refusal.specs.Refusals.{traceNumber, numberOf, traceOf, placeOf, verdictOf, statusOf, Placed};
 
 // One of two traces that are lent side by side.
@@ -91,6 +92,20 @@ pub fn place_of(refusal: Refusal) -> u64
         Refusal::Size => 0,
         Refusal::TraceEvent(_, i) => i as u64,
         Refusal::Row => 0,
+    }
+}
+
+// The last place that a status has room for.
+const LAST_PLACE: usize = 4294967295;
+
+// A place as a status tells it.
+pub fn told_place(place: usize) -> usize
+    ensures { λ r. ⌜ r ≡ min place (2 ^ 32 - 1) ⌝ }
+{
+    if place < LAST_PLACE {
+        place
+    } else {
+        LAST_PLACE
     }
 }
 

@@ -41,6 +41,14 @@ pub fn read_state(s: &[u8], moving: &[u8]) -> Counter
     c
 }
 
+// ACC of the state that the two hold, which is beside the snapshot.
+pub fn read_acc(s: &[u8], moving: &[u8]) -> i32
+    requires { ⌜ (length (now s) ≡ snapshotSize) × (length (now moving) ≡ movingSize) ⌝ }
+    ensures { λ r. ⌜ r ≡ splitState (now (s .entry)) (now (moving .entry)) .acc ⌝ }
+{
+    bytes::read_i32(moving, 0)
+}
+
 fn write_moving(moving: &mut [u8], acc: i32, flags: u32, levels: u8)
     requires { ⌜ length (now moving) ≡ movingSize ⌝ }
     ensures { λ _. ⌜ now (moving .exit) ≡ pack movingLayout (unsigned w32 acc ∷ flags ∷ levels ∷ []) ⌝ }

@@ -1,0 +1,3 @@
+-- Document 02, request 2: the count of a night as a row of numbers. Read in this order.
+pub mod Counts
+pub mod Drawing
