@@ -1,6 +1,6 @@
 //! The library and the model side by side on the same inputs, in one run: replay, mending,
-//! the image's check and single steps over a full night, and two nights compared. It asserts
-//! results, never times.
+//! the image's check and single steps over a full night, the night drawn, and two nights compared.
+//! It asserts results, never times.
 
 mod night;
 
@@ -96,6 +96,24 @@ fn steps() {
     compare("event check", |subject| events.iter().map(|event| subject.event_check(event)).sum::<u32>());
 }
 
+fn curve() {
+    let events = night::events().into_flattened();
+    println!("the night's {MAX_EVENTS} events drawn");
+
+    let draw = |subject: &dyn Subject, row: &mut [i32]| {
+        let mut snapshot = encode(&Counter::fresh());
+        assert_eq!(subject.draw(&mut snapshot, &events, row), 0);
+        snapshot
+    };
+    let mut row = vec![0; MAX_EVENTS as usize];
+    compare("draw", |subject| draw(subject, &mut row));
+    on_each(|subject| {
+        let mut other = vec![0; row.len()];
+        draw(subject, &mut other);
+        assert!(row == other, "draw: the rows differ");
+    });
+}
+
 fn nights() {
     let first = night::events().into_flattened();
     println!("two nights of {MAX_EVENTS} events each");
@@ -142,5 +160,6 @@ fn main() {
         images(spacing);
     }
     steps();
+    curve();
     nights();
 }

@@ -1,5 +1,5 @@
 /* Calls the library as the depot's program does: a fresh snapshot is stepped and read back, an image is replayed and mended,
- * two traces are compared, and refusals are met.
+ * two traces are compared, events are drawn, and refusals are met.
  * One line for each check; the first that fails ends the run with status 1.
  *
  *   rt staticlib hsc
@@ -217,7 +217,7 @@ static void images(void) {
     check("and the image and the span are as they were", memcmp(image, expected, IMAGE) == 0 && span[0] == 1 && span[1] == 1);
 }
 
-/* A trace that is lent to be compared or for its rest. */
+/* A trace that is lent to be compared, for its rest or to be drawn. */
 struct trace {
     const uint8_t *bytes;
     size_t len;
@@ -285,6 +285,15 @@ static void longest(void) {
     check_compared("1048576 events are compared", most, short_one, ROW, 1, (uint32_t[ROW]){0, KEPT, KEPT, KEPT});
     check_uncompared("comparing: one more in the first is refused by 9", 9, 0, 0, over, short_one, ROW);
     check_uncompared("comparing: one more in the second is refused by 9", 9, 0, 0, short_one, over, ROW);
+
+    uint8_t snapshot[HSC_SNAPSHOT_SIZE];
+    int32_t *row = calloc(HSC_MAX_EVENTS + 1, sizeof *row);
+    check("there is memory for the longest row", row != NULL);
+    fresh(snapshot);
+    put(snapshot, 52, 4, 7);
+    uint64_t status = hsc_draw(snapshot, sizeof snapshot, over.bytes, over.len, row, HSC_MAX_EVENTS + 1);
+    check("one more is drawn", status == 0 && row[0] == 7 && row[HSC_MAX_EVENTS] == 7);
+    free(row);
     free(blanks);
 }
 
@@ -308,6 +317,61 @@ static void rests(void) {
     check("so does a trace with itself", hsc_rest(bytes, 24, bytes, 24, part) == 1 && part[0] == 24 && part[1] == 0);
 }
 
+/* The accumulator after each event, and the snapshot that single steps leave; the numbers past the row are kept. */
+static void check_drawn(const char *what, struct trace events, size_t row_len, const int32_t expected[ROW]) {
+    uint8_t drawn[HSC_SNAPSHOT_SIZE], stepped[HSC_SNAPSHOT_SIZE];
+    int32_t row[ROW] = {KEPT, KEPT, KEPT, KEPT};
+    fresh(drawn);
+    fresh(stepped);
+    for (size_t at = 0; at < events.len; at += HSC_EVENT_SIZE) {
+        hsc_step(stepped, sizeof stepped, events.bytes + at, HSC_EVENT_SIZE);
+    }
+    uint64_t status = hsc_draw(drawn, sizeof drawn, events.bytes, events.len, row, row_len);
+    check(what, status == 0 && memcmp(row, expected, sizeof row) == 0 && memcmp(drawn, stepped, sizeof drawn) == 0);
+}
+
+/* The refusal with its place, and a snapshot and a row that are as they were. */
+static void check_undrawn(const char *what, uint32_t number, uint32_t place, const uint8_t *snapshot,
+                          size_t snapshot_len, struct trace events, size_t row_len) {
+    const int32_t before[ROW] = {KEPT, KEPT, KEPT, KEPT};
+    int32_t row[ROW] = {KEPT, KEPT, KEPT, KEPT};
+    uint8_t lent[HSC_SNAPSHOT_SIZE + 1];
+    memcpy(lent, snapshot, sizeof lent);
+    uint64_t status = hsc_draw(lent, snapshot_len, events.bytes, events.len, row, row_len);
+    check(what, hsc_number(status) == number && hsc_trace(status) == 0 && hsc_place(status) == place &&
+                    memcmp(row, before, sizeof row) == 0 && memcmp(lent, snapshot, sizeof lent) == 0);
+}
+
+static void drawings(void) {
+    uint8_t good[HSC_SNAPSHOT_SIZE + 1] = {0}, bad[HSC_SNAPSHOT_SIZE + 1] = {0}, curve[TRACE], illegal[TRACE];
+    fresh(good);
+    fresh(bad);
+    bad[64] = 16;
+    trace_of(curve, -5, 1, 6);
+    event_of(curve + 2 * HSC_EVENT_SIZE, 5, 0, INT32_MIN);
+    trace_of(illegal, -5, 7, 10);
+    const struct trace all = {curve, TRACE}, three = {curve, TRACE - HSC_EVENT_SIZE}, one = {curve, HSC_EVENT_SIZE};
+    const struct trace none = {curve, 0}, odd = {curve, 13}, third = {illegal, TRACE};
+
+    check_drawn("four events are drawn", all, 4, (int32_t[ROW]){-5, -5, INT32_MIN, INT32_MIN});
+    check_drawn("the row is counted in numbers", three, 3, (int32_t[ROW]){-5, -5, INT32_MIN, KEPT});
+    check_drawn("one event is drawn", one, 1, (int32_t[ROW]){-5, KEPT, KEPT, KEPT});
+    check_drawn("no events are drawn", none, 0, (int32_t[ROW]){KEPT, KEPT, KEPT, KEPT});
+
+    check_undrawn("drawing: a snapshot of 67 bytes is refused by 9", 9, 0, good, 67, all, 4);
+    check_undrawn("drawing: a snapshot of 69 bytes is refused by 9", 9, 0, good, 69, all, 4);
+    check_undrawn("drawing: a snapshot of 0 bytes is refused by 9", 9, 0, good, 0, all, 4);
+    check_undrawn("drawing: events of 13 bytes are refused by 9", 9, 0, good, 68, odd, 1);
+    check_undrawn("drawing: a row too short by one is refused by 9", 9, 0, good, 68, all, 3);
+    check_undrawn("drawing: so is one too long by one", 9, 0, good, 68, three, 4);
+    check_undrawn("drawing: so is a row for no events", 9, 0, good, 68, none, 1);
+    check_undrawn("drawing: an illegal event is refused by 5, at its place", 5, 2, good, 68, third, 4);
+    check_undrawn("drawing: levels of 16 are refused by 6", 6, 0, bad, 68, all, 4);
+    check_undrawn("drawing: so they are with no events", 6, 0, bad, 68, none, 0);
+    check_undrawn("drawing: 5 goes before 6", 5, 2, bad, 68, third, 4);
+    check_undrawn("drawing: 9 goes before 5 and 6", 9, 0, bad, 68, third, 3);
+}
+
 static void version(void) {
     check("header and archive are of one version", hsc_version() == HSC_VERSION_NUMBER);
 }
@@ -321,5 +385,6 @@ int main(void) {
     comparisons();
     longest();
     rests();
+    drawings();
     return 0;
 }

@@ -31,6 +31,14 @@ extern "C" {
         second_len: usize,
         part: *mut u64,
     ) -> u32;
+    fn hsc_draw(
+        snapshot: *mut u8,
+        snapshot_len: usize,
+        events: *const u8,
+        events_len: usize,
+        row: *mut i32,
+        row_len: usize,
+    ) -> u64;
 }
 
 pub struct Archive;
@@ -76,5 +84,18 @@ impl Subject for Archive {
 
     fn rest(&self, first: &[u8], second: &[u8], part: &mut [u64; 2]) -> u32 {
         unsafe { hsc_rest(first.as_ptr(), first.len(), second.as_ptr(), second.len(), part.as_mut_ptr()) }
+    }
+
+    fn draw(&self, snapshot: &mut [u8], events: &[u8], row: &mut [i32]) -> u64 {
+        unsafe {
+            hsc_draw(
+                snapshot.as_mut_ptr(),
+                snapshot.len(),
+                events.as_ptr(),
+                events.len(),
+                row.as_mut_ptr(),
+                row.len(),
+            )
+        }
     }
 }

@@ -1,5 +1,5 @@
-//! An independent model of document 01 and of document 02's request 1, the harness that runs
-//! the same cases on the model and on a subject, and the declarations of the archive.
+//! An independent model of document 01 and of document 02's requests 1 and 2, the harness that
+//! runs the same cases on the model and on a subject, and the declarations of the archive.
 
 #[cfg(feature = "archive")]
 pub mod ffi;
@@ -8,4 +8,4 @@ pub mod harness;
 pub mod model;
 pub mod subject;
 
-pub use model::{compare, event_check, mend, read, replay, rest, step};
+pub use model::{compare, draw, event_check, mend, read, replay, rest, step};

@@ -1,4 +1,4 @@
-//! The seven calls, for the model and for whatever is run against it.
+//! The eight calls, for the model and for whatever is run against it.
 
 use crate::model;
 
@@ -10,6 +10,7 @@ pub trait Subject {
     fn mend(&self, image: &mut [u8], first: u64, patch: &[u8], span: &mut [u32; 2]) -> u64;
     fn compare(&self, first: &[u8], second: &[u8], row: &mut [u32], count: &mut u32) -> u64;
     fn rest(&self, first: &[u8], second: &[u8], part: &mut [u64; 2]) -> u32;
+    fn draw(&self, snapshot: &mut [u8], events: &[u8], row: &mut [i32]) -> u64;
 }
 
 pub struct Model;
@@ -41,6 +42,10 @@ impl Subject for Model {
 
     fn rest(&self, first: &[u8], second: &[u8], part: &mut [u64; 2]) -> u32 {
         model::rest(first, second, part)
+    }
+
+    fn draw(&self, snapshot: &mut [u8], events: &[u8], row: &mut [i32]) -> u64 {
+        model::draw(snapshot, events, row)
     }
 }
 

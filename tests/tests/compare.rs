@@ -1,14 +1,15 @@
 //! Document 02, request 1: its rows by hand, two full nights, and what holds of any traces on a
 //! subject alone.
 
-use hsc_tests::generate::event::{event, stamp};
+use hsc_tests::generate::event::{event, restamp};
 use hsc_tests::generate::image::{self, Parts};
 use hsc_tests::generate::{pair, Rng};
-use hsc_tests::harness::case::{Answer, Case};
+use hsc_tests::harness::alone::{answer, generated};
+use hsc_tests::harness::case::Case;
 use hsc_tests::model::event::Bytes;
 use hsc_tests::model::trace::MAX_EVENTS;
 use hsc_tests::model::Refusal;
-use hsc_tests::subject::{on_each, Subject};
+use hsc_tests::subject::on_each;
 
 fn acc(value: i32) -> Bytes {
     event(5, 0, value)
@@ -142,22 +143,6 @@ fn rest_by_hand() {
             case.expect(subject, &case.part(trace, part)).unwrap();
         }
     });
-}
-
-/// Runs a test on each subject with the generators of a fixed seed's cases.
-fn generated(test: impl Fn(&dyn Subject, &mut Rng)) {
-    on_each(|subject| (0..20_000).for_each(|number| test(subject, &mut Rng::of_case(2, number))));
-}
-
-/// The answer to a call that touches no more than it is lent.
-fn answer(subject: &dyn Subject, case: Case) -> Answer {
-    let answer = case.answer(subject);
-    assert!(answer.stays_within(&case), "{:?} touches a guard or its input", case.call);
-    answer
-}
-
-fn restamp(rng: &mut Rng, trace: &mut [u8]) {
-    trace.as_chunks_mut().0.iter_mut().for_each(|event| stamp(rng, event));
 }
 
 #[test]

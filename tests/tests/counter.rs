@@ -2,6 +2,7 @@
 //! the snapshot's layout.
 
 use hsc_tests::generate::event::event;
+use hsc_tests::generate::state::{loaded, p};
 use hsc_tests::model::counter::Counter;
 use hsc_tests::model::event::Bytes;
 use hsc_tests::model::flags::*;
@@ -17,22 +18,6 @@ const SP_OFF: (u8, u8, i32) = (4, 6, 0);
 /// One count in mode 2, from levels 0.
 const UP: (u8, u8, i32) = (1, 0, 1);
 const DOWN: (u8, u8, i32) = (1, 0, 3);
-
-/// The settings P of the bench table.
-fn p() -> Settings {
-    Settings { pfn: 3, mode: 2, unf: -3, lop: -2, hip: 4, ovf: 5, ..Settings::default() }
-}
-
-/// A counter with these settings loaded that counts and interrupts.
-fn loaded(settings: Settings, acc: i32) -> Counter {
-    Counter {
-        staged: settings,
-        active: settings,
-        acc,
-        flags: MASKS | FE | UIE | CE | LOADED,
-        ..Counter::fresh()
-    }
-}
 
 fn after(subject: &dyn Subject, counter: Counter, events: &[(u8, u8, i32)]) -> Counter {
     let mut snapshot = encode(&counter);

@@ -24,6 +24,11 @@ pub fn stamp(rng: &mut Rng, bytes: &mut Bytes) {
     bytes[8..].copy_from_slice(&(rng.bits() as u32).to_le_bytes());
 }
 
+/// Gives each event of a row another stamp.
+pub fn restamp(rng: &mut Rng, events: &mut [u8]) {
+    events.as_chunks_mut().0.iter_mut().for_each(|event| stamp(rng, event));
+}
+
 /// Levels with pulses on inputs 0 and 1, seldom a reset or a hold.
 fn levels(rng: &mut Rng) -> i32 {
     let mut levels = rng.below(4) as i32;
@@ -98,6 +103,15 @@ pub fn damage(rng: &mut Rng, event: &mut [u8]) {
         1 | 2 => event[1] = rng.below(21) as u8,
         3 | 4 => event[4..8].copy_from_slice(&rng.pick(&EDGES).to_le_bytes()),
         _ => change_byte(rng, &mut event[..8]),
+    }
+}
+
+/// Damages one event of a row, if it has any.
+pub fn damage_one(rng: &mut Rng, events: &mut [u8]) {
+    let count = events.len() / 12;
+    if count > 0 {
+        let place = rng.below(count);
+        damage(rng, &mut events[12 * place..][..12]);
     }
 }
 

@@ -1,5 +1,6 @@
 //! Inputs for the cases: legal and damaged, at the edges more often than chance has it.
 
+pub mod drawing;
 pub mod event;
 pub mod image;
 pub mod pair;

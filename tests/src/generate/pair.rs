@@ -53,10 +53,7 @@ pub fn any(rng: &mut Rng) -> [Vec<u8>; 2] {
     for trace in &mut pair {
         match rng.below(16) {
             0 => change_length(rng, trace),
-            1 | 2 if !trace.is_empty() => {
-                let place = rng.below(trace.len() / 12);
-                event::damage(rng, &mut trace[12 * place..][..12]);
-            }
+            1 | 2 => event::damage_one(rng, trace),
             _ => {}
         }
     }

@@ -54,10 +54,7 @@ pub fn any(rng: &mut Rng, image: &[u8], parts: Parts) -> (u64, Vec<u8>) {
             patch.extend((0..surplus).flat_map(|_| event::legal(rng)));
         }
         4 => change_length(rng, &mut patch),
-        5 | 6 if !patch.is_empty() => {
-            let place = rng.below(patch.len() / 12);
-            event::damage(rng, &mut patch[12 * place..][..12]);
-        }
+        5 | 6 => event::damage_one(rng, &mut patch),
         _ => {}
     }
     (first, patch)

@@ -1,6 +1,6 @@
 //! Settings, states and snapshots.
 
-use super::{change_byte, value, Rng};
+use super::{change_byte, change_length, value, Rng};
 use crate::model::counter::{Counter, OUTPUTS};
 use crate::model::flags;
 use crate::model::settings::Settings;
@@ -84,6 +84,22 @@ pub fn state(rng: &mut Rng) -> Counter {
     }
 }
 
+/// The settings P of the bench table.
+pub fn p() -> Settings {
+    Settings { pfn: 3, mode: 2, unf: -3, lop: -2, hip: 4, ovf: 5, ..Settings::default() }
+}
+
+/// A counter with these settings loaded that counts and interrupts.
+pub fn loaded(settings: Settings, acc: i32) -> Counter {
+    Counter {
+        staged: settings,
+        active: settings,
+        acc,
+        flags: flags::MASKS | flags::FE | flags::UIE | flags::CE | flags::LOADED,
+        ..Counter::fresh()
+    }
+}
+
 /// The bytes that a rule of well-formedness concerns beside the active settings.
 const RULED: [usize; 10] = [57, 58, 59, 60, 62, 63, 64, 65, 66, 67];
 
@@ -96,6 +112,17 @@ pub fn snapshot(rng: &mut Rng) -> snapshot::Bytes {
         2 => change_byte(rng, &mut bytes[26..52]),
         3 => bytes[rng.pick(&RULED)] = rng.below(20) as u8,
         4 => bytes[rng.pick(&RULED)] ^= 1 << rng.below(8),
+        _ => {}
+    }
+    bytes
+}
+
+/// A snapshot as a call is lent it: seldom of another length, or of none.
+pub fn lent(rng: &mut Rng) -> Vec<u8> {
+    let mut bytes = snapshot(rng).to_vec();
+    match rng.below(64) {
+        0 | 1 => change_length(rng, &mut bytes),
+        2 => bytes.clear(),
         _ => {}
     }
     bytes

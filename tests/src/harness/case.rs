@@ -14,10 +14,11 @@ pub enum Call {
     Mend,
     Compare,
     Rest,
+    Draw,
 }
 
 /// A call and what it is lent: `buffer` is the snapshot, image or first trace, `input` the
-/// event, patch or second trace, `row` the count of the row's numbers.
+/// event or events, patch or second trace, `row` the count of the row's numbers.
 #[derive(Debug)]
 pub struct Case {
     pub call: Call,
@@ -34,6 +35,7 @@ const GUARD: usize = 80;
 /// What a guard byte and a result hold before the call.
 const PAINT: u8 = 0xa5;
 const PAINTED_NUMBER: u32 = u32::from_le_bytes([PAINT; 4]);
+const PAINTED_SIGNED: i32 = i32::from_le_bytes([PAINT; 4]);
 
 /// The results with guards between them, in one block so that a stray write shows.
 #[repr(C)]
@@ -55,7 +57,7 @@ pub struct Results {
 impl Results {
     pub const PAINTED: Results = Results {
         guard_0: [PAINT; GUARD],
-        fields: [i32::from_le_bytes([PAINT; 4]); 32],
+        fields: [PAINTED_SIGNED; 32],
         guard_1: [PAINT; GUARD],
         last: [PAINT; 68],
         guard_2: [PAINT; GUARD],
@@ -68,13 +70,15 @@ impl Results {
     };
 }
 
-/// All that a call left: equal answers include untouched guards.
+/// All that a call left: equal answers include untouched guards. A comparison is lent the row, a
+/// drawing the curve.
 #[derive(PartialEq, Eq)]
 pub struct Answer {
     pub status: u64,
     buffer: Vec<u8>,
     input: Vec<u8>,
     row: Vec<u32>,
+    curve: Vec<i32>,
     pub results: Results,
 }
 
@@ -95,6 +99,7 @@ impl Answer {
             buffer: guarded(&case.buffer),
             input: guarded(&case.input),
             row: vec![PAINTED_NUMBER; GUARD + case.row + GUARD],
+            curve: vec![PAINTED_SIGNED; GUARD + case.row + GUARD],
             results: Results::PAINTED,
         }
     }
@@ -109,11 +114,17 @@ impl Answer {
         &self.row[GUARD..self.row.len() - GUARD]
     }
 
+    /// The curve after the call.
+    pub fn curve(&self) -> &[i32] {
+        &self.curve[GUARD..self.curve.len() - GUARD]
+    }
+
     /// Whether the guards and the read-only input are as they were.
     pub fn stays_within(&self, case: &Case) -> bool {
         let mut want = Answer::unchanged(case, self.status);
         inside(&mut want.buffer).copy_from_slice(self.buffer());
         inside(&mut want.row).copy_from_slice(self.row());
+        inside(&mut want.curve).copy_from_slice(self.curve());
         let Results { fields, last, span, count, part, .. } = self.results;
         want.results = Results { fields, last, span, count, part, ..Results::PAINTED };
         *self == want
@@ -145,6 +156,7 @@ impl Answer {
             first_difference("buffer", &self.buffer, &want.buffer, GUARD),
             first_difference("input", &self.input, &want.input, GUARD),
             first_difference("row", &self.row, &want.row, GUARD),
+            first_difference("curve", &self.curve, &want.curve, GUARD),
             first_difference("fields", &ours.fields, &theirs.fields, 0),
             first_difference("last", &ours.last, &theirs.last, 0),
             first_difference("span", &ours.span, &theirs.span, 0),
@@ -196,6 +208,10 @@ impl Case {
         Case::lend(Call::Rest, first, 0, second)
     }
 
+    pub fn draw(snapshot: &[u8], events: &[u8], row: usize) -> Case {
+        Case { row, ..Case::lend(Call::Draw, snapshot, 0, events) }
+    }
+
     fn lend(call: Call, buffer: &[u8], first: u64, input: &[u8]) -> Case {
         Case { call, buffer: buffer.to_vec(), first, input: input.to_vec(), row: 0 }
     }
@@ -206,6 +222,7 @@ impl Case {
         let buffer = inside(&mut answer.buffer);
         let input = &*inside(&mut answer.input);
         let row = inside(&mut answer.row);
+        let curve = inside(&mut answer.curve);
         let results = &mut answer.results;
         answer.status = match self.call {
             Call::EventCheck => subject.event_check(input).into(),
@@ -215,6 +232,7 @@ impl Case {
             Call::Mend => subject.mend(buffer, self.first, input, &mut results.span),
             Call::Compare => subject.compare(buffer, input, row, &mut results.count),
             Call::Rest => subject.rest(buffer, input, &mut results.part).into(),
+            Call::Draw => subject.draw(buffer, input, curve),
         };
         // The optimizer may not take the guards for unchanged.
         std::hint::black_box(answer)
@@ -241,6 +259,14 @@ impl Case {
     pub fn part(&self, trace: u32, part: [u64; 2]) -> Answer {
         let mut answer = Answer::unchanged(self, trace.into());
         answer.results.part = part;
+        answer
+    }
+
+    /// Answers this snapshot and these numbers in the curve.
+    pub fn drawn(&self, snapshot: &[u8], numbers: &[i32]) -> Answer {
+        let mut answer = Answer::unchanged(self, 0);
+        inside(&mut answer.buffer).copy_from_slice(snapshot);
+        inside(&mut answer.curve).copy_from_slice(numbers);
         answer
     }
 
@@ -286,5 +312,10 @@ mod tests {
         *touched.row.last_mut().unwrap() = 7;
         assert!(touched != case.listed(&[0]) && !touched.stays_within(&case));
         assert_eq!(touched.difference(&case.listed(&[0])), "row at 80 is 7, not 2779096485");
+        let case = Case::draw(&[0; 68], &[0; 12], 1);
+        let mut touched = case.drawn(&[0; 68], &[0]);
+        touched.curve[GUARD - 1] = 7;
+        assert!(touched != case.drawn(&[0; 68], &[0]) && !touched.stays_within(&case));
+        assert_eq!(touched.difference(&case.drawn(&[0; 68], &[0])), "curve at -1 is 7, not -1515870811");
     }
 }

@@ -1,5 +1,6 @@
 //! Runs generated cases on a subject and on the model, and counts what they reach.
 
+pub mod alone;
 pub mod case;
 pub mod demand3;
 pub mod slip;
@@ -10,7 +11,7 @@ use std::ops::Range;
 use case::{Answer, Call, Case};
 use tally::Tally;
 
-use crate::generate::{change_length, event, image, pair, patch, state, Rng};
+use crate::generate::{change_length, drawing, event, image, pair, patch, state, Rng};
 use crate::model::event::{row, Event};
 use crate::model::{counter::Counter, snapshot};
 use crate::subject::{Model, Subject};
@@ -41,7 +42,7 @@ fn run_each(
 }
 
 fn any_call(subject: &dyn Subject, rng: &mut Rng, tally: &mut Tally) -> Result<(), String> {
-    match rng.below(20) {
+    match rng.below(24) {
         0 => check_event(subject, rng, tally),
         1 => read(subject, rng, tally),
         2..=6 => step(subject, rng, tally),
@@ -49,7 +50,8 @@ fn any_call(subject: &dyn Subject, rng: &mut Rng, tally: &mut Tally) -> Result<(
         10..=13 => mend(subject, rng, tally),
         14 | 15 => demand_3(subject, rng, tally),
         16..=18 => compare_nights(subject, rng, tally),
-        _ => rest(subject, rng, tally),
+        19 => rest(subject, rng, tally),
+        _ => draw(subject, rng, tally),
     }
 }
 
@@ -75,26 +77,18 @@ fn event_input(rng: &mut Rng, damaged: usize) -> Vec<u8> {
     bytes
 }
 
-fn snapshot_input(rng: &mut Rng) -> Vec<u8> {
-    let mut bytes = state::snapshot(rng).to_vec();
-    if rng.once_in(32) {
-        change_length(rng, &mut bytes);
-    }
-    bytes
-}
-
 fn check_event(subject: &dyn Subject, rng: &mut Rng, tally: &mut Tally) -> Result<(), String> {
     let case = Case::event_check(&event_input(rng, 2));
     compare(subject, &case, tally).map(drop)
 }
 
 fn read(subject: &dyn Subject, rng: &mut Rng, tally: &mut Tally) -> Result<(), String> {
-    let case = Case::read(&snapshot_input(rng));
+    let case = Case::read(&state::lent(rng));
     compare(subject, &case, tally).map(drop)
 }
 
 fn step(subject: &dyn Subject, rng: &mut Rng, tally: &mut Tally) -> Result<(), String> {
-    let case = Case::step(&snapshot_input(rng), &event_input(rng, 8));
+    let case = Case::step(&state::lent(rng), &event_input(rng, 8));
     let answer = compare(subject, &case, tally)?;
     if answer.status == 0 {
         let mut counter = snapshot::decode(case.buffer[..].try_into().unwrap());
@@ -157,5 +151,13 @@ fn rest(subject: &dyn Subject, rng: &mut Rng, tally: &mut Tally) -> Result<(), S
     let case = Case::rest(&first, &second);
     let answer = compare(subject, &case, tally)?;
     tally.rest(&case, &answer);
+    Ok(())
+}
+
+fn draw(subject: &dyn Subject, rng: &mut Rng, tally: &mut Tally) -> Result<(), String> {
+    let (snapshot, events) = drawing::any(rng);
+    let case = Case::draw(&snapshot, &events, drawing::row_length(rng, &events));
+    let answer = compare(subject, &case, tally)?;
+    tally.drawn(&case, &answer);
     Ok(())
 }

@@ -2,11 +2,15 @@
 //! harness catches it.
 
 use std::cell::Cell;
+use std::ops::Range;
 
 use crate::generate::image::Parts;
 use crate::model::counter::{Counter, OUTPUTS};
-use crate::model::{event, flags, snapshot};
+use crate::model::{event, flags, snapshot, Refusal};
 use crate::subject::{Model, Subject};
+
+/// Where a snapshot has ACC.
+const ACC: Range<usize> = 52..56;
 
 #[derive(Clone, Debug)]
 pub enum Slip {
@@ -40,10 +44,30 @@ pub enum Slip {
     OtherTrace,
     /// Gives the end of the shorter trace.
     ShorterRest,
+    /// Draws the accumulator before each event.
+    DrawsBefore,
+    /// Draws from a fresh state.
+    DrawsFromFresh,
+    /// Leaves the snapshot as it was.
+    SnapshotLeft,
+    /// Writes ACC alone to the snapshot.
+    SnapshotAccAlone,
+    /// Draws as far as the events are legal, then refuses by 5.
+    DrawsUpToIllegal,
+    /// Gives the place of a 5 in bytes.
+    PlaceInBytes,
+    /// Asks for 6 before 5.
+    SnapshotFirst,
+    /// Does not ask for 6 where there are no events.
+    SnapshotUnasked,
+    /// Takes a row with more numbers than events.
+    LongRowTaken,
+    /// Takes a row with fewer numbers than events, and draws what it holds.
+    ShortRowTaken,
 }
 
 impl Slip {
-    pub fn all() -> [Slip; 17] {
+    pub fn all() -> [Slip; 27] {
         [
             Slip::StepRefusesAll,
             Slip::StepIsFixed,
@@ -62,6 +86,16 @@ impl Slip {
             Slip::ShortRowWritten,
             Slip::OtherTrace,
             Slip::ShorterRest,
+            Slip::DrawsBefore,
+            Slip::DrawsFromFresh,
+            Slip::SnapshotLeft,
+            Slip::SnapshotAccAlone,
+            Slip::DrawsUpToIllegal,
+            Slip::PlaceInBytes,
+            Slip::SnapshotFirst,
+            Slip::SnapshotUnasked,
+            Slip::LongRowTaken,
+            Slip::ShortRowTaken,
         ]
     }
 }
@@ -189,5 +223,37 @@ impl Subject for Slip {
             }
             _ => trace,
         }
+    }
+
+    fn draw(&self, snapshot: &mut [u8], events: &[u8], row: &mut [i32]) -> u64 {
+        let mut old = snapshot.to_vec();
+        let mut status = Model.draw(snapshot, events, row);
+        let (place, count, held) = ((status >> 32) as usize, events.len() / 12, row.len());
+        match (self, status as u16) {
+            (Slip::DrawsBefore, 0) if held > 0 => {
+                row.rotate_right(1);
+                row[0] = i32::from_le_bytes(old[ACC].try_into().unwrap());
+            }
+            (Slip::DrawsFromFresh, 0) => {
+                Model.draw(&mut snapshot::encode(&Counter::fresh()), events, row);
+            }
+            (Slip::SnapshotLeft, 0) => snapshot.copy_from_slice(&old),
+            (Slip::SnapshotAccAlone, 0) => {
+                old[ACC].copy_from_slice(&snapshot[ACC]);
+                snapshot.copy_from_slice(&old);
+            }
+            (Slip::DrawsUpToIllegal, 5) => {
+                Model.draw(&mut old, &events[..12 * place], &mut row[..place]);
+            }
+            (Slip::PlaceInBytes, 5) => status = Refusal::new(5, 12 * place).status(),
+            (Slip::SnapshotFirst, 5) if Model.draw(snapshot, &[], &mut []) == 6 => status = 6,
+            (Slip::SnapshotUnasked, 6) if events.is_empty() => status = 0,
+            (Slip::LongRowTaken, 9) => status = Model.draw(snapshot, events, &mut row[..held.min(count)]),
+            (Slip::ShortRowTaken, 9) if held < count => {
+                status = Model.draw(snapshot, &events[..12 * held], row)
+            }
+            _ => {}
+        }
+        status
     }
 }

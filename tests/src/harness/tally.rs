@@ -1,5 +1,6 @@
 //! Counts of what the cases reached, and what they must reach.
 
+use std::cmp::Ordering::{Equal, Greater, Less};
 use std::collections::BTreeMap;
 use std::fmt;
 
@@ -9,7 +10,7 @@ use crate::generate::pair;
 use crate::model::counter::Counter;
 use crate::model::event::{first_illegal, row, Event};
 use crate::model::trace::MAX_EVENTS;
-use crate::model::{flags, Fate};
+use crate::model::{flags, snapshot, Fate};
 
 #[derive(Default)]
 pub struct Tally {
@@ -17,14 +18,14 @@ pub struct Tally {
 }
 
 /// Each heading with the numbers that must be reached under it.
-const REQUIRED: [(&str, &[u32]); 33] = [
+const REQUIRED: [(&str, &[u32]); 42] = [
     (CHECK, &[0, 1, 9]),
     (STEP, &[0, 5, 6, 9]),
     (READ, &[0, 6, 9]),
     (REPLAY, &[0, 1, 2, 3, 4, 5]),
     (MEND, &[0, 1, 2, 3, 4, 5, 6, 7, 8]),
     (AT_PLACE, &[5, 6, 8]),
-    (KIND, &[0, 1, 2, 3, 4, 5, 6, 7, 8, 9]),
+    (KIND, KINDS),
     (MODE, &[0, 1, 2, 3, 4, 5, 6, 7]),
     (LOAD, &[0, 1, 2, 3, 4, 5]),
     (PRESET_LOAD, &[0, 3, 4, 5]),
@@ -51,8 +52,18 @@ const REQUIRED: [(&str, &[u32]); 33] = [
     (REST, TRACES),
     (REST_EQUAL, &[1]),
     (REST_UNEVEN, TRACES),
+    (DRAW, &[0, 5, 6, 9]),
+    (DRAW_NONE, &[0, 6, 9]),
+    (DRAW_LENGTH, &[0, 1, 2, 3, 4, 5]),
+    (DRAW_ILLEGAL, &[0, 1, 2, 3, 4, 5]),
+    (DRAW_COUNT, &[0, 1, 2, 3]),
+    (STILL, KINDS),
+    (NEXT, &[0, 1]),
+    (LEAPT, &[0, 2, 3, 4, WRITTEN]),
+    (EXTREME, &[0, 1]),
 ];
 
+const KINDS: &[u32] = &[0, 1, 2, 3, 4, 5, 6, 7, 8, 9];
 const CAUSES: &[u32] = &[1, 2, 3, 4];
 const TRACES: &[u32] = &[1, 2];
 const TABLES: &[u32] = &[0, 1, 2, 3, 4, 5];
@@ -90,6 +101,20 @@ const LONGER: &str = "compare done with lengths that differ: longer trace";
 const REST: &str = "rest: answer";
 const REST_EQUAL: &str = "rest of equal lengths: answer";
 const REST_UNEVEN: &str = "rest with a length not a multiple of 12: answer";
+const DRAW: &str = "draw: refusal";
+const DRAW_NONE: &str = "draw of no events: refusal";
+const DRAW_LENGTH: &str =
+    "draw refused for a length: 0 snapshot shorter, 1 longer, 2 events, 3 row shorter, 4 longer, 5 several";
+const DRAW_ILLEGAL: &str =
+    "draw refused for an illegal event: 0 first of many, 1 within, 2 last of many, 3 the only one, \
+     4 with another behind it, 5 over a snapshot not well formed";
+const DRAW_COUNT: &str = "draw done: 0 no events, 1 one, 2 more, 3 more than an image may have";
+const STILL: &str = "number drawn that is the one before: kind";
+const NEXT: &str = "number drawn next to the one before: 0 below, 1 above";
+const LEAPT: &str =
+    "number drawn far from the one before: 0 reset, 2 high preset, 3 underflow, 4 overflow, 5 written";
+const WRITTEN: u32 = 5;
+const EXTREME: &str = "number drawn: 0 the least, 1 the most";
 
 impl Tally {
     fn add(&mut self, heading: &'static str, number: u32) {
@@ -106,6 +131,7 @@ impl Tally {
             Call::Mend => MEND,
             Call::Compare => COMPARE,
             Call::Rest => REST,
+            Call::Draw => DRAW,
         };
         self.add(heading, answer.number());
         if answer.place() != 0 {
@@ -169,6 +195,87 @@ impl Tally {
         }
         if first % 12 != 0 || second % 12 != 0 {
             self.add(REST_UNEVEN, answer.number());
+        }
+    }
+
+    /// Counts what a drawing met: the lengths, and what its outcome goes by.
+    pub fn drawn(&mut self, case: &Case, answer: &Answer) {
+        const LIMIT: usize = MAX_EVENTS as usize;
+        let number = answer.number();
+        if case.input.is_empty() {
+            self.add(DRAW_NONE, number);
+        }
+        match number {
+            0 => {
+                let count = match case.row {
+                    0 => 0,
+                    1 => 1,
+                    2..=LIMIT => 2,
+                    _ => 3,
+                };
+                self.add(DRAW_COUNT, count);
+                self.curve(case, answer.curve());
+            }
+            5 => self.illegal_drawn(case, answer.place()),
+            9 => self.length_drawn(case),
+            _ => {}
+        }
+    }
+
+    fn length_drawn(&mut self, case: &Case) {
+        let lengths = [
+            case.buffer.len().cmp(&snapshot::SIZE),
+            (case.input.len() % 12).cmp(&0),
+            case.row.cmp(&(case.input.len() / 12)),
+        ];
+        let fault = match lengths {
+            [Less, Equal, Equal] => 0,
+            [Greater, Equal, Equal] => 1,
+            [Equal, Greater, Equal] => 2,
+            [Equal, Equal, Less] => 3,
+            [Equal, Equal, Greater] => 4,
+            _ => 5,
+        };
+        self.add(DRAW_LENGTH, fault);
+    }
+
+    fn illegal_drawn(&mut self, case: &Case, place: usize) {
+        let events = row(&case.input);
+        let which = match (place, events.len() - 1) {
+            (0, 0) => 3,
+            (0, _) => 0,
+            (place, last) if place < last => 1,
+            _ => 2,
+        };
+        self.add(DRAW_ILLEGAL, which);
+        if first_illegal(&events[place + 1..]).is_some() {
+            self.add(DRAW_ILLEGAL, 4);
+        }
+        if !snapshot::decode(case.buffer[..].try_into().unwrap()).is_well_formed() {
+            self.add(DRAW_ILLEGAL, 5);
+        }
+    }
+
+    /// Counts how each number drawn follows the one before.
+    fn curve(&mut self, case: &Case, curve: &[i32]) {
+        let mut counter = snapshot::decode(case.buffer[..].try_into().unwrap());
+        for (bytes, &number) in row(&case.input).iter().zip(curve) {
+            let event = Event::from_bytes(bytes);
+            let before = counter.acc;
+            let by = if event.kind == 1 {
+                counter.sample(event.value as u8).map_or(0, |(cause, _)| cause.into())
+            } else {
+                counter.step(event);
+                WRITTEN
+            };
+            match number.abs_diff(before) {
+                0 => self.add(STILL, event.kind.into()),
+                1 => self.add(NEXT, (number > before).into()),
+                _ => self.add(LEAPT, by),
+            }
+            if number == i32::MIN || number == i32::MAX {
+                self.add(EXTREME, (number > 0).into());
+            }
         }
     }
 

@@ -1,9 +1,10 @@
-//! The model's seven calls, on slices as the C surface has them. A status holds the refusal's
+//! The model's eight calls, on slices as the C surface has them. A status holds the refusal's
 //! number in bits 0 to 15, the trace it speaks of in bits 16 to 31 and its place in bits 32 to
 //! 63; 0 is done. A refusal leaves every lent buffer as it was.
 
 mod compare;
 pub mod counter;
+mod draw;
 pub mod event;
 pub mod flags;
 mod interrupt;
@@ -34,8 +35,10 @@ impl Refusal {
         Refusal { trace, ..self }
     }
 
-    pub const fn status(self) -> u64 {
-        self.number as u64 | (self.trace as u64) << 16 | (self.place as u64) << 32
+    /// A place past 2^32 - 1, which only drawing can have, stands as 2^32 - 1.
+    pub fn status(self) -> u64 {
+        let place = u32::try_from(self.place).unwrap_or(u32::MAX);
+        u64::from(self.number) | u64::from(self.trace) << 16 | u64::from(place) << 32
     }
 }
 
@@ -106,4 +109,10 @@ pub fn rest(first: &[u8], second: &[u8], part: &mut [u64; 2]) -> u32 {
     let (trace, answer) = compare::rest(first, second);
     *part = answer;
     trace
+}
+
+/// Takes the events one after another, writes the accumulator after each to the row, and the
+/// snapshot after all of them over the lent one. Refusals 9, 5, 6.
+pub fn draw(snapshot: &mut [u8], events: &[u8], row: &mut [i32]) -> u64 {
+    status(draw::draw(snapshot, events, row))
 }
