@@ -2,3 +2,6 @@
 mod Counts
 pub mod Accepted
 pub mod Bounds
+pub mod Left
+pub mod Joined
+pub mod Night

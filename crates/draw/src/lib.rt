@@ -1,5 +1,6 @@
 // Drawing (document 02, request 2): the accumulator after each of many events into a lent row, and the snapshot after all of them.
 pub mod check;
+
 use crate::check::draw_verdict;
 use image::edition;
 use image::edition::Edition;
@@ -70,7 +71,14 @@ fn draw_valid(ed: Edition, snapshot: &mut [u8], events: &[u8], row: &mut [i32])
     let mut moving = [0u8; MAX_BESIDE];
     let n = edition::size(ed);
     let m = edition::beside(ed);
-    draw_in(ed, snapshot, events, row, &mut state[0..n], &mut moving[0..m]);
+    draw_in(
+        ed,
+        snapshot,
+        events,
+        row,
+        &mut state[0..n],
+        &mut moving[0..m],
+    );
 }
 
 // Takes the events over the snapshot, writes the accumulator after each into the row and the snapshot after all of them over the lent

@@ -122,6 +122,11 @@ module _ {A : Type 0} where
       ap (take n) (drop-append-le k a b (le-trans (le-add-right k n) h))
       ∙ take-append-le n (drop k a) b (simp length-drop (omega arith))
 
+  -- and in the second
+  pub part-past : (a b : List A) (k n : ℕ) → part (a ++ b) (length a + k) n ≡ part b k n
+  unfolding part
+  part-past a b k n = ap (take n) (drop-append-add a b k)
+
   -- one element of a part
   pub getD-part : (l : List A) (at n i : ℕ) (d : A) → i < n → getD (part l at n) i d ≡ getD l (at + i) d
   unfolding part
