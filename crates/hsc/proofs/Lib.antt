@@ -1,5 +1,6 @@
 -- Laws of the definitions, and laws for the proofs of the calls.
 pub mod Status
+pub mod Drawn
 mod Widened
 mod Whole
 mod Rows

@@ -2,10 +2,11 @@
 -- given otherwise. Replay and mending of an image are the `image` crates'.
 use mathlib.Core.Bool.{cond, not}
 use mathlib.Core.List.{List, [], _∷_}
-use Prim.Native.Nat.{ℕ}
+use Prim.Native.Nat.{ℕ, zero, suc, _*_}
 use lib.Dec.{eqb}
 use lib.IntN.{ℤ}
 use lib.ListN.{length}
+use Rattle.word.specs.Part.{part}
 use Rattle.snapshot.specs.Widths.{snapshotSize, eventSize}
 use Rattle.snapshot.specs.Snapshots.{encode, decode}
 use Rattle.snapshot.specs.FormedBytes.{formed}
@@ -42,6 +43,11 @@ stepAnswer snapshot event = statusOf (stepVerdict snapshot event)
 -- the next snapshot over the lent one
 abbrev pub stepAfter : List ℕ → List ℕ → List ℕ
 stepAfter snapshot event = changedIf (stepVerdict snapshot event) snapshot (encode (stepEvent event (decode snapshot)))
+
+-- the snapshot after n steps, by the events of a row in order
+unfoldable pub stepsAfter : List ℕ → List ℕ → ℕ → List ℕ
+stepsAfter snapshot events zero = snapshot
+stepsAfter snapshot events (suc n) = stepAfter (stepsAfter snapshot events n) (part events (n * eventSize) eventSize)
 
 -- ---- drawing (document 02, request 2): the snapshot after is `drawSnapshot`, the row `drawRow`
 

@@ -1,6 +1,6 @@
 -- `hsc::stepping::step_over` meets its contract: a row of one event is that event's step, and the snapshot is made whole again.
 use borrow.Author.Needs.{needs}
-use mathlib.Core.Path.{_≡_, sym, ap, ap₂, _∙_, subst}
+use mathlib.Core.Path.{_≡_, sym, ap, _∙_, subst}
 use mathlib.Core.List.{List}
 use Prim.Native.Nat.{ℕ}
 use native.Mathlib.Omega.{arith}
@@ -8,9 +8,7 @@ use lib.ListN.{length}
 use denote.Ref.{now}
 use Rattle.word.specs.Part.{part, put}
 use Rattle.word.proofs.Part.{part-whole, put-whole}
-use Rattle.replay.specs.Events.{run}
-use Rattle.replay.proofs.Run.{run-zero, run-next}
-use Rattle.counter.specs.declared.state.Counter.{Counter}
+use Rattle.replay.proofs.Run.{run-one}
 use Rattle.counter.specs.WellFormed.{Good}
 use Rattle.snapshot.specs.Widths.{snapshotSize, eventSize}
 use Rattle.snapshot.specs.Snapshots.{encode, decode}
@@ -20,9 +18,6 @@ use Rattle.snapshot.proofs.RoundTrip.{length-encode, good-decode}
 use Rattle.image.specs.Editions.{base}
 use Rattle.hsc.proofs.stepping.step_over.Statement.{statement}
 use Rattle.hsc.proofs.stepping.step_over.Tie as tie
-
-run-one : (c : Counter) (e : List ℕ) → length e ≡ eventSize → run base c e 0 1 ≡ stepEvent e c
-run-one c e long = run-next base c e 0 0 ∙ ap₂ stepEvent (part-whole e eventSize long) (run-zero base c e 0)
 
 -- the moving numbers over a buffer that is the snapshot
 whole-over : (b m : List ℕ) {t : List ℕ} → length b ≡ snapshotSize → t ≡ put b 0 (encode (splitState (part b 0 snapshotSize) m)) → t ≡ encode (splitState b m)
@@ -74,7 +69,7 @@ returns c =
     let event = now (start .args .event) in
     let long = moved .advance .kept .1 .1 .1 .1 .0 ∙ start .pre .0 .0 in
     whole-over _ _ long (over .write-over .ensures)
-    ∙ ap encode (moved .advance .ensures .0 ∙ run-one _ event (start .pre .1) ∙ ap (stepEvent event) (load .load-moving .ensures))
+    ∙ ap encode (moved .advance .ensures .0 ∙ run-one base _ event (start .pre .1) ∙ ap (stepEvent event) (load .load-moving .ensures))
 
 pub step-over-spec : {M : Type 1} → statement M
 step-over-spec =
