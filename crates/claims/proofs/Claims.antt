@@ -40,6 +40,7 @@ use Rattle.replay.specs.Replay as any
 use Rattle.replay.specs.Mend.{mend}
 use Rattle.replay.specs.Claim.{Mended}
 use Rattle.image.specs.declared.edition.Edition.{Edition}
+use Rattle.image.specs.declared.edition.Edition.the-variants.{Base}
 use Rattle.image_mend.specs.declared.Span.{Span}
 use Rattle.image_mend.specs.declared.Mending.{Mending}
 use Rattle.image.specs.Editions.{system}
@@ -50,8 +51,9 @@ use Rattle.image_mend.specs.Mends.{mendAnswer, mendImage, mendOf}
 use Rattle.image_mend.specs.Demand3.{Edit, Demand3}
 use Rattle.hsc.specs.Version.{version}
 use Rattle.hsc.specs.Calls.{checkAnswer, stepAnswer, stepAfter, readAnswer, readAfter, replayStatus, mendStatus, mendSpan}
-use Rattle.hsc.specs.Calls.{compareStatus, compareCount, restNumber, restPart}
+use Rattle.hsc.specs.Calls.{compareStatus, compareCount, restNumber, restPart, drawStatus}
 use Rattle.compare.specs.Comparing.{compareRow}
+use Rattle.draw.specs.Drawing.{drawSnapshot, drawRow}
 use Rattle.report.specs.Office.{officeLine}
 use Rattle.word.proofs as word
 use Rattle.refusal.proofs.Answers as refusals
@@ -72,6 +74,7 @@ pub calls-met : {M : Type 1} → hsc.version.hsc_version.Statement.statement M �
     × hsc.stepping.hsc_step.Statement.statement M × hsc.reading.hsc_read.Statement.statement M
     × hsc.replaying.hsc_replay.Statement.statement M × hsc.mending.hsc_mend.Statement.statement M
     × hsc.comparing.hsc_compare.Statement.statement M × hsc.comparing.hsc_rest.Statement.statement M
+    × hsc.drawing.hsc_draw.Statement.statement M
 calls-met = (
   hsc.version.hsc_version.Met.met,
   hsc.checking.hsc_event_check.Met.met,
@@ -81,6 +84,7 @@ calls-met = (
   hsc.mending.hsc_mend.Met.met,
   hsc.comparing.hsc_compare.Met.met,
   hsc.comparing.hsc_rest.Met.met,
+  hsc.drawing.hsc_draw.Met.met,
 )
 
 -- The contracts, as the checker reads them for a caller: what is asked of the arguments, and what is learnt of them, the answer r and the
@@ -130,6 +134,14 @@ pub hsc-rest : (κs : _) (first first′ second second′ part part′ : RefT (L
     × (hsc.comparing.hsc_rest.Reads.Learnt κs (first, (second, (part, tt))) r (first′, (second′, (part′, tt)))
     ≡ ((r ≡ restNumber (now first) (now second)) × (now part′ ≡ restPart (now first) (now second))))
 hsc-rest κs first first′ second second′ part part′ r = (refl, refl)
+
+pub hsc-draw : (κs : _) (snapshot snapshot′ events events′ : RefT (List ℕ)) (row row′ : RefT (List ℤ)) (r : ℕ)
+    → (hsc.drawing.hsc_draw.Reads.Asked κs (snapshot, (events, (row, tt))) ≡ Unit)
+    × (hsc.drawing.hsc_draw.Reads.Learnt κs (snapshot, (events, (row, tt))) r (snapshot′, (events′, (row′, tt)))
+    ≡ ((r ≡ drawStatus (now snapshot) (now events) (now row))
+    × ((now snapshot′ ≡ drawSnapshot Base (now snapshot) (now events) (length (now row)))
+    × (now row′ ≡ drawRow Base (now snapshot) (now events) (now row)))))
+hsc-draw κs snapshot snapshot′ events events′ row row′ r = (refl, refl)
 
 -- an image is not refused exactly where its header is right, its length is that of its shape, its events are legal and replay may start
 pub verdict-valid : (image : List ℕ) → Bytes image → ValidTrace image ↔ (images.Headers.Headed image × any.Replayable (systemOf image) (shapeOf image) image)

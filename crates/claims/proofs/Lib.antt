@@ -1,3 +1,4 @@
 -- The claims of `docs/CLAIMS.md`: its three demands, then those of document 02's requests.
 pub mod Claims
 pub mod Comparing
+pub mod Drawing

@@ -1,5 +1,5 @@
--- What drawing leaves: the state after any number of its events is good, so the snapshot left is well formed and holds the state after all
--- of them, whose accumulator is the row's last number.
+-- What drawing leaves: the row has the accumulator after each event, and the snapshot is that of the state after all of them, which is good,
+-- so that it is well formed and is read back.
 use mathlib.Core.Path.{_≡_, refl, sym, ap, _∙_}
 use mathlib.Core.Bool.{true}
 use mathlib.Core.List.{List}
@@ -34,14 +34,21 @@ module _ (ed : Edition) (snapshot events : List ℕ) {room : ℕ} (can : Drawabl
   pub snapshot-left : drawSnapshot ed snapshot events room ≡ S .encode (run S (S .decode snapshot) events 0 room)
   snapshot-left = rw (drawable ed snapshot events room can, count)
 
-  pub row-left : (row : List ℤ) → length row ≡ room → drawRow ed snapshot events row ≡ counts ed snapshot events
-  row-left row e = rw (e, drawable ed snapshot events room can)
-
   -- number i is the accumulator after i + 1 events
-  pub count-at : (i : ℕ) (d : ℤ) → i < room → getD (counts ed snapshot events) i d ≡ accOf ed (run S (S .decode snapshot) events 0 (i + 1))
+  count-at : (i : ℕ) (d : ℤ) → i < room → getD (counts ed snapshot events) i d ≡ accOf ed (run S (S .decode snapshot) events 0 (i + 1))
   count-at i d h =
       after-at S (accOf ed) (S .decode snapshot) events 0 0 (eventsIn events) i d (omega (arith, count))
       ∙ ap (λ (n : ℕ). accOf ed (run S (S .decode snapshot) events 0 (n + 1))) (omega arith)
+
+  module _ (row : List ℤ) (fits : length row ≡ room) where
+    pub row-left : drawRow ed snapshot events row ≡ counts ed snapshot events
+    row-left = rw (fits, drawable ed snapshot events room can)
+
+    pub row-long : length (drawRow ed snapshot events row) ≡ room
+    row-long = ap length row-left ∙ length-after S (accOf ed) (S .decode snapshot) events 0 0 (eventsIn events) ∙ count
+
+    pub row-at : (i : ℕ) (d : ℤ) → i < room → getD (drawRow ed snapshot events row) i d ≡ accOf ed (run S (S .decode snapshot) events 0 (i + 1))
+    row-at i d h = ap (λ (l : List ℤ). getD l i d) row-left ∙ count-at i d h
 
   module _ (bytes-s : Bytes snapshot) (bytes-e : Bytes events) where
     before-good : S .Good (S .decode snapshot)
@@ -70,11 +77,3 @@ module _ (ed : Edition) (snapshot events : List ℕ) {room : ℕ} (can : Drawabl
 
     pub left-decoded : S .decode (drawSnapshot ed snapshot events room) ≡ run S (S .decode snapshot) events 0 room
     left-decoded = rw snapshot-left (laws ed .decode-encode _ (after-good room (omega arith)))
-
-    -- the row's last number is that of the snapshot left
-    pub last-count : (d : ℤ) → 0 < room
-        → getD (counts ed snapshot events) (room - 1) d ≡ accOf ed (S .decode (drawSnapshot ed snapshot events room))
-    last-count d some =
-        count-at (room - 1) d (omega arith)
-        ∙ ap (λ (n : ℕ). accOf ed (run S (S .decode snapshot) events 0 n)) (omega arith)
-        ∙ ap (accOf ed) (sym left-decoded)

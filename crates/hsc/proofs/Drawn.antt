@@ -2,7 +2,7 @@
 -- reading then shows.
 use mathlib.Core.Path.{_≡_, refl, sym, ap, ap₂, _∙_}
 use mathlib.Core.Bool.{Bool, true, false, cond, not, _||_}
-use mathlib.Core.List.{List}
+use mathlib.Core.List.{List, []}
 use Prim.Native.Nat.{ℕ, zero, suc, _+_, _-_, _*_, _/_, _%_, _≤_, _<_}
 use native.Mathlib.Nat.{zero-add}
 use native.Mathlib.Omega.{arith}
@@ -12,7 +12,7 @@ use lib.IntN.{ℤ}
 use lib.ListN.{length, getD}
 use Rattle.word.specs.Part.{Bytes, part}
 use Rattle.word.proofs.Part.{length-part, part-whole}
-use Rattle.refusal.specs.Refusals.{Answer, refused, given, told, _andThen_, changedIf}
+use Rattle.refusal.specs.Refusals.{Answer, refusedIn, refused, given, told, _andThen_, changedIf}
 use Rattle.refusal.proofs.Answers.{changed-same}
 use Rattle.replay.specs.Events.{firstIllegal, run}
 use Rattle.replay.proofs.Run.{run-one, run-next}
@@ -29,10 +29,33 @@ use Rattle.image.specs.Rows.{eventsIn}
 use Rattle.image.specs.Verdicts.{eventsVerdict}
 use Rattle.draw.specs.Drawing.{badSizes, sizesVerdict, legalVerdict, formVerdict, drawVerdict, drawSnapshot, counts, drawRow}
 use Rattle.draw.proofs.Accepted.{Drawable, drawn}
-use Rattle.draw.proofs.Left.{snapshot-left, row-left, count-at, after-good}
+use Rattle.draw.proofs.Left.{snapshot-left, row-at, after-good}
 use Rattle.hsc.specs.Fields.{fieldsOf}
 use Rattle.hsc.specs.Calls.{eventVerdict, stepVerdict, stepAfter, stepsAfter, readVerdict, readAfter}
 use Rattle.hsc.proofs.Done.{step-passed}
+
+-- ---- no events
+
+-- what reading answers, and the snapshot as it was
+pub draw-none : (s : List ℕ) → drawVerdict Base s [] 0 ≡ readVerdict s
+unfolding drawVerdict sizesVerdict legalVerdict eventsVerdict firstIllegal formVerdict readVerdict
+draw-none s = go (eqb (length s) snapshotSize)
+  where
+    of-snapshot : Answer Unit
+    of-snapshot = cond (not (formed s)) (refused 6 0) (given tt)
+
+    go : (p : Bool) → (cond ((not p || false) || false) (refused 9 0) (given tt) andThen of-snapshot) ≡ cond (not p) (refused 9 0) of-snapshot
+    go true = refl
+    go false = refl
+
+pub draw-none-after : (s : List ℕ) → Bytes s → drawSnapshot Base s [] 0 ≡ s
+unfolding run
+draw-none-after s bytes =
+    changed-same (drawVerdict Base s [] 0) s (λ v. encode-decode s bytes (drawn Base s [] 0 v .sized)) ∙ unchanged (drawVerdict Base s [] 0)
+  where
+    unchanged : (a : Answer Unit) → changedIf a s s ≡ s
+    unchanged (refusedIn n t p) = refl
+    unchanged (given u) = refl
 
 -- ---- one event
 
@@ -161,9 +184,7 @@ module _ (s events : List ℕ) (row : List ℤ) (v : drawVerdict Base s events (
   pub row-shown : (i : ℕ) → i < length row → (fields : List ℤ) (d : ℤ)
       → getD (drawRow Base s events row) i d ≡ getD (readAfter (stepsAfter s events (i + 1)) fields) 18 d
   row-shown i h fields d =
-      ap (λ (l : List ℤ). getD l i d) (row-left Base s events can row refl)
-      ∙ count-at Base s events can i d h
-      ∙ sym (shown (i + 1) (omega arith) fields d)
+      row-at Base s events can row refl i d h ∙ sym (shown (i + 1) (omega arith) fields d)
 
   -- the last one, that which reading shows of the snapshot left
   pub last-shown : 0 < length row → (fields : List ℤ) (d : ℤ)

@@ -140,6 +140,11 @@ pub placed-in : {A : Type 0} (t : Trace) (a : Answer A) → Placed a → Placed 
 placed-in t (refusedIn n s p) h = h
 placed-in t (given x) h = h
 
+-- a place that fits is told as it is, and one that does not as the last
+pub told-placed : {A : Type 0} (a : Answer A) → Placed a → told a ≡ a
+told-placed (refusedIn n t p) h = ap (refusedIn n t) (omega arith)
+told-placed (given x) h = refl
+
 pub placed-told : {A : Type 0} (a : Answer A) → Placed (told a)
 placed-told (refusedIn n t p) = omega arith
 placed-told (given x) = tt

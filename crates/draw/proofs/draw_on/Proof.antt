@@ -99,14 +99,14 @@ loop-again c =
     let s = S .stateIn (now (a .state)) (now (a .moving)) in
     let going = at-loop .loop .inv in
     let reached = one-more S s (now (a .events)) (at-loop .loop .i) (going .reached) (moved .advance .ensures .0) in
-    let count = toZ-ofZ (record { sfits = c .acc .ok }) ∙ c .acc .ensures ∙ ap (accOf (a .ed)) reached in
     record {
       long = simp length-set (going .long);
       within = omega (arith, turn .loop-test .taken, going .long);
       reached = reached;
       held = moved .advance .ensures .1;
       left = drawn-more S (accOf (a .ed)) s (now (a .events)) 0 (at-loop .loop .row) (at-loop .loop .i) (length (now (a .row)))
-          (omega (arith, turn .loop-test .taken, going .long)) (going .long) count (going .left);
+          (omega (arith, turn .loop-test .taken, going .long)) (going .long)
+          (toZ-ofZ (record { sfits = c .acc .ok }) ∙ c .acc .ensures ∙ ap (accOf (a .ed)) reached) (going .left);
     }
 
 same-length : tie.Need-same-length Inv-loop μ-loop
