@@ -40,3 +40,14 @@ enum outcome assemble(struct image *image, const struct row *row, uint32_t spaci
     image_free(image);
     return tell_refusal(row->path, status);
 }
+
+enum outcome replay_before(const struct image *image, uint32_t event, uint8_t state[HSC_SNAPSHOT_SIZE])
+{
+    struct row row = {.path = image->path, .events = image_event(image, 0), .count = event};
+    struct image part;
+    enum outcome outcome = assemble(&part, &row, HSC_MAX_SPACING, state);
+
+    if (outcome == DONE)
+        image_free(&part);
+    return outcome;
+}

@@ -21,4 +21,10 @@ struct row {
  */
 enum outcome assemble(struct image *image, const struct row *row, uint32_t spacing, uint8_t last[HSC_SNAPSHOT_SIZE]);
 
+/*
+ * The state before an event, or after all of them: those before it are replayed, as an image of their own, and the
+ * stored table is not looked at. One of them that is not legal is told and refused.
+ */
+enum outcome replay_before(const struct image *image, uint32_t event, uint8_t state[HSC_SNAPSHOT_SIZE]);
+
 #endif

@@ -10,6 +10,8 @@ const struct command COMMANDS[] = {
      TAKES(OPTION_BARE) | TAKES(OPTION_STAMPS), 1, 3, command_events},
     {"show", "IMAGE J", "print snapshot J in words", 0, 2, 2, command_show},
     {"state", "IMAGE [EVENT]", "print the state before EVENT, or after all events, in words", 0, 1, 2, command_state},
+    {"draw", "IMAGE", "make a picture (SVG) of the counts, on standard output or as the file OUT",
+     TAKES(OPTION_EVENT_COUNT) | TAKES(OPTION_CSV) | TAKES(OPTION_FROM) | TAKES(OPTION_OUT), 1, 1, command_draw},
     {"check", "IMAGE...", "tell whether tables are true, or what differs first", 0, 1, INT_MAX, command_check},
     {"compare", "IMAGE IMAGE", "tell where the events of two images differ", TAKES(OPTION_ALL) | TAKES(OPTION_EVENTS),
      2, 2, command_compare},

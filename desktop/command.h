@@ -41,6 +41,9 @@ enum outcome command_events(const struct request *request);
 /* IMAGE [EVENT]: the state before an event, or after all of them, in words. */
 enum outcome command_state(const struct request *request);
 
+/* IMAGE: the counts as a picture. */
+enum outcome command_draw(const struct request *request);
+
 /* TEXT OUT: the text's events as a patch. */
 enum outcome command_encode(const struct request *request);
 

@@ -3,15 +3,9 @@
 #include "hsc.h"
 #include "image.h"
 #include "line.h"
-#include "number.h"
+#include "run.h"
 
 #include <string.h>
-
-/* The events from one place to before another. */
-struct run {
-    uint32_t from;
-    uint32_t end;
-};
 
 /* Nothing is printed where one of the events is not legal. */
 static enum outcome check_legal(const struct image *image, const struct run *run)
@@ -42,35 +36,23 @@ static enum outcome print_events(const struct image *image, const struct run *ru
     return DONE;
 }
 
-/* From the second operand on, and so many as the third says or as there are. */
-static enum outcome parse_run(const struct image *image, const struct request *request, struct run *run)
+/* The operand of this place; NULL where it is not given. */
+static const char *operand(const struct request *request, int place)
 {
-    uint64_t from = 0;
-    uint64_t count = UINT64_MAX;
-    enum outcome outcome = DONE;
-
-    if (request->operand_count > 1)
-        outcome = number_parse("FROM", request->operands[1], &from);
-    if (outcome == DONE && request->operand_count > 2)
-        outcome = number_parse("COUNT", request->operands[2], &count);
-    if (outcome != DONE)
-        return outcome;
-    if (from > image->events)
-        return tell_no_such(image->path, "event", from, image->events);
-    run->from = (uint32_t)from;
-    run->end = count < image->events - from ? (uint32_t)(from + count) : image->events;
-    return DONE;
+    return place < request->operand_count ? request->operands[place] : NULL;
 }
 
 enum outcome command_events(const struct request *request)
 {
     struct image image;
-    struct run run = {0, 0};
+    struct run run;
+    const struct given from = {"FROM", operand(request, 1)};
+    const struct given count = {"COUNT", operand(request, 2)};
     enum outcome outcome = image_load(&image, request->operands[0]);
 
     if (outcome != DONE)
         return outcome;
-    outcome = parse_run(&image, request, &run);
+    outcome = run_parse(&run, &image, &from, &count);
     if (outcome == DONE)
         outcome = print_events(&image, &run, request);
     image_free(&image);

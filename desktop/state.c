@@ -15,20 +15,16 @@ static void print_place(const struct image *image, uint32_t event)
         printf("after all %" PRIu32 " events\n", image->events);
 }
 
-/* The events before this one are replayed, as an image of their own; the stored table is not looked at. */
 static enum outcome print_state(const struct image *image, uint32_t event)
 {
-    struct row row = {.path = image->path, .events = image_event(image, 0), .count = event};
-    struct image part;
-    uint8_t last[HSC_SNAPSHOT_SIZE];
+    uint8_t state[HSC_SNAPSHOT_SIZE];
     int32_t fields[HSC_FIELD_COUNT];
     uint64_t status;
-    enum outcome outcome = assemble(&part, &row, HSC_MAX_SPACING, last);
+    enum outcome outcome = replay_before(image, event, state);
 
     if (outcome != DONE)
         return outcome;
-    image_free(&part);
-    status = hsc_read(last, HSC_SNAPSHOT_SIZE, fields);
+    status = hsc_read(state, HSC_SNAPSHOT_SIZE, fields);
     if (status != 0)
         return tell_refusal(image->path, status);
     print_place(image, event);

@@ -1,4 +1,4 @@
-/* The eight calls through the header, as C and as C++: each done and refused, with guard bytes behind what is lent. */
+/* The nine calls through the header, as C and as C++: each done and refused, with guard bytes behind what is lent. */
 #include "hsc.h"
 
 #include <stdio.h>
@@ -56,6 +56,31 @@ static void check_single(const uint8_t fresh[HSC_SNAPSHOT_SIZE])
     expect(fields[HSC_FIELD_COUNT] == 6, "nothing behind the fields is written");
     snapshot[65] = 5;
     expect(hsc_read(snapshot, sizeof snapshot, fields) == refusal(6, 0), "reading refuses cause 5");
+}
+
+static void check_draw(const uint8_t fresh[HSC_SNAPSHOT_SIZE])
+{
+    const uint8_t events[3 * HSC_EVENT_SIZE] = {HSC_ACC_WRITE, 0, 0, 0, 7, 0, 0, 0, 0, 0, 0, 0, HSC_BLANK, 0,
+                                                0, 0, 0, 0, 0, 0, 0, 0, 0, 0, HSC_KIND_COUNT};
+    uint8_t snapshot[HSC_SNAPSHOT_SIZE];
+    uint8_t stepped[HSC_SNAPSHOT_SIZE];
+    int32_t row[3] = {40, 41, 42};
+    uint64_t status;
+
+    memcpy(snapshot, fresh, sizeof snapshot);
+    memcpy(stepped, fresh, sizeof stepped);
+    expect(hsc_draw(snapshot, sizeof snapshot, events, 24, row, 1) == refusal(9, 0), "drawing refuses a short row");
+    expect(hsc_draw(snapshot, 67, events, 24, row, 2) == refusal(9, 0), "drawing refuses 67 bytes");
+    status = hsc_draw(snapshot, sizeof snapshot, events, sizeof events, row, 3);
+    expect(status == refusal(5, 2), "drawing refuses an illegal event at its place");
+    expect(memcmp(snapshot, fresh, sizeof snapshot) == 0 && row[0] == 40, "a refused drawing leaves all");
+    expect(hsc_draw(snapshot, sizeof snapshot, events, 24, row, 2) == HSC_DONE, "drawing is done");
+    expect(row[0] == 7 && row[1] == 7 && row[2] == 42, "ACC after each event is written, and no more");
+    expect(hsc_step(stepped, sizeof stepped, events, HSC_EVENT_SIZE) == HSC_DONE, "the first event is taken");
+    expect(memcmp(snapshot, stepped, sizeof snapshot) == 0, "drawing leaves what the steps leave");
+    expect(hsc_draw(snapshot, sizeof snapshot, events, 0, row, 0) == HSC_DONE, "no events are drawn");
+    snapshot[65] = 5;
+    expect(hsc_draw(snapshot, sizeof snapshot, events, 0, row, 0) == refusal(6, 0), "drawing refuses cause 5");
 }
 
 static void check_image(const uint8_t image[IMAGE_SIZE])
@@ -126,6 +151,7 @@ int main(int count, char **words)
     expect(hsc_version() == HSC_VERSION_NUMBER, "header and archive are of one version");
     check_events();
     check_single(image + HSC_HEADER_SIZE + 2 * HSC_EVENT_SIZE);
+    check_draw(image + HSC_HEADER_SIZE + 2 * HSC_EVENT_SIZE);
     check_image(image);
     check_traces();
     return failures == 0 ? 0 : 1;

@@ -77,6 +77,8 @@ static bool apply(const char *how)
     return true;
 }
 
+int __real_fclose(FILE *stream);
+
 static void record(const char *call)
 {
     const char *path = getenv("FAULT_CALLS");
@@ -84,7 +86,7 @@ static void record(const char *call)
 
     if (file != NULL) {
         fprintf(file, "%s\n", call);
-        fclose(file);
+        __real_fclose(file);
     }
 }
 
@@ -101,7 +103,7 @@ static bool fault(const char *call)
         char how[16];
         int which;
 
-        if (i == MOST_FAULTS || sscanf(wish, "%15[a-z]:%d:%15[A-Z]", name, &which, how) != 3)
+        if (i == MOST_FAULTS || sscanf(wish, "%15[a-z_]:%d:%15[A-Z]", name, &which, how) != 3)
             abandon("FAULT is not CALL:N:HOW, ..");
         if (strcmp(call, name) == 0 && ++calls[i] == which)
             fails = apply(how);
@@ -122,6 +124,7 @@ static bool fault(const char *call)
 FAULTY(int, close, (int descriptor), (descriptor), -1)
 FAULTY(int, fchmod, (int descriptor, mode_t mode), (descriptor, mode), -1)
 FAULTY(int, fchown, (int descriptor, uid_t owner, gid_t group), (descriptor, owner, group), -1)
+FAULTY(int, fclose, (FILE * stream), (stream), (__real_fclose(stream), EOF))
 FAULTY(int, fcntl, (int descriptor, int command, struct flock *lock), (descriptor, command, lock), -1)
 FAULTY(int, fstat, (int descriptor, struct stat *status), (descriptor, status), -1)
 FAULTY(int, fsync, (int descriptor), (descriptor), -1)
@@ -130,6 +133,7 @@ FAULTY(int, lstat, (const char *path, struct stat *status), (path, status), -1)
 FAULTY(void *, malloc, (size_t size), (size), NULL)
 FAULTY(int, mkstemp, (char *path), (path), -1)
 FAULTY(int, open, (const char *path, int flags), (path, flags), -1)
+FAULTY(FILE *, open_memstream, (char **text, size_t *size), (text, size), NULL)
 FAULTY(ssize_t, read, (int descriptor, void *bytes, size_t size), (descriptor, bytes, short_moves ? 1 : size), -1)
 FAULTY(char *, realpath, (const char *path, char *resolved), (path, resolved), NULL)
 FAULTY(int, rename, (const char *from, const char *to), (from, to), -1)

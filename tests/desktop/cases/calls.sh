@@ -14,8 +14,8 @@ else
     skip 'no C++ compiler'
 fi
 
-verdict 'the archive has the eight calls' [ "$(nm -g --defined-only "$archive" 2> /dev/null |
-    grep -c -E ' T hsc_(version|event_check|step|read|replay|mend|compare|rest)$')" -eq 8 ]
+verdict 'the archive has the nine calls' [ "$(nm -g --defined-only "$archive" 2> /dev/null |
+    grep -c -E ' T hsc_(version|event_check|step|draw|read|replay|mend|compare|rest)$')" -eq 9 ]
 
 # The examples are what their script writes.
 cp "$root"/examples/make "$root"/examples/image.sh .

@@ -2,8 +2,8 @@
 
 # every NUMBER PLACE FILE: each command refuses the file so, and leaves it.
 every() {
-    for every_words in "info $3" "events $3" "show $3 0" "state $3" "check $3" "compare $3 two-events.trace" \
-        "replay $3" "mend $3 0 one-event.patch"; do
+    for every_words in "info $3" "events $3" "show $3 0" "state $3" "draw $3" "draw $3 --csv" "check $3" \
+        "compare $3 two-events.trace" "replay $3" "mend $3 0 one-event.patch"; do
         keep "$3" refuse "$1" "$2" $every_words
     done
 }
@@ -50,7 +50,8 @@ every 4 0 fewer.trace
 # An illegal event is refused by all that look at events.
 cp two-events.trace illegal.trace
 over illegal.trace 36 10
-for words in 'info illegal.trace' 'events illegal.trace' 'state illegal.trace' 'check illegal.trace' \
+for words in 'info illegal.trace' 'events illegal.trace' 'state illegal.trace' 'draw illegal.trace' \
+    'draw --csv illegal.trace' 'check illegal.trace' \
     'compare illegal.trace two-events.trace' 'replay illegal.trace' 'mend illegal.trace 0 one-event.patch'; do
     keep illegal.trace refuse 5 1 $words
 done

@@ -80,6 +80,10 @@ writes night.trace old.trace new.trace
 each_fault replay night.trace
 writes made.patch none one-event.patch
 each_fault encode nine.text made.patch
+cp old.trace night.trace
+"$PROGRAM" draw night.trace > night.svg
+writes made.svg none night.svg
+each_fault draw night.trace -o made.svg
 writes made.trace none nine.trace
 each_fault build two.text 1 made.trace
 writes made.trace words.trace new.trace
@@ -90,7 +94,8 @@ done
 
 # The commands that only print.
 writes night.trace new.trace new.trace
-for words in 'info night.trace' 'events night.trace' 'show night.trace 1' 'state night.trace 1' 'check night.trace' \
+for words in 'info night.trace' 'events night.trace' 'show night.trace 1' 'state night.trace 1' \
+    'draw night.trace' 'draw --csv night.trace --from 1' 'check night.trace' \
     'compare night.trace old.trace' 'compare --events one-event.patch one-event.patch' 'replay night.trace' \
     'mend --dry-run night.trace 0 one-event.patch'; do
     each_fault $words

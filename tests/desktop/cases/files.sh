@@ -2,8 +2,8 @@
 
 # each FILE: every command fails on it.
 each() {
-    for each_words in "info $1" "events $1" "show $1 0" "state $1" "check $1" "replay $1" "mend $1 0 one-event.patch" \
-        "encode $1 out.patch" "build $1 1 out.trace" "compare $1 two-events.trace" "compare two-events.trace $1"; do
+    for each_words in "info $1" "events $1" "show $1 0" "state $1" "draw $1" "check $1" "replay $1" \
+        "mend $1 0 one-event.patch" "encode $1 out.patch" "build $1 1 out.trace" "compare $1 two-events.trace" "compare two-events.trace $1"; do
         try 2 $each_words
         says err "hsc: $1: "
         verdict "hsc $each_words: nothing on standard output" [ ! -s out ]

@@ -1,7 +1,8 @@
 # Standard streams that are full or closed, and disks that are.
 
 for words in --help --version help 'help mend' 'info two-events.trace' 'events two-events.trace' \
-    'show two-events.trace 0' 'state two-events.trace' 'check two-events.trace' \
+    'show two-events.trace 0' 'state two-events.trace' 'draw two-events.trace' \
+    'draw --csv two-events.trace' 'check two-events.trace' \
     'compare two-events.trace two-events.trace' 'replay two-events.trace'; do
     status=0
     "$PROGRAM" $words > /dev/full 2> err || status=$?
@@ -19,6 +20,10 @@ try 0 build many.txt 4096 many.trace
 status=0
 "$PROGRAM" events many.trace > /dev/full 2> err || status=$?
 verdict "a long output to a full disk: exit status $status" [ "$status" -eq 2 ]
+says err 'standard output'
+status=0
+"$PROGRAM" draw --csv many.trace > /dev/full 2> err || status=$?
+verdict "a long drawing to a full disk: exit status $status" [ "$status" -eq 2 ]
 says err 'standard output'
 
 # No stream at all: the image is replaced, or left, but never written into.
