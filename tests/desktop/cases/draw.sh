@@ -60,7 +60,7 @@ for words in '>small-night.trace</text>' \
     '>events 0 to 53 of 54, 7 snapshots, spacing 8; count 0 before, -2 after, lowest -4, highest 8</text>' \
     '>count (ACC)</text>' '>place of the event</text>' '>-4</text>' '>8</text>' '>50</text>' '>HIP 6</text>' \
     '>HIP 3</text>' '>LOP -2</text>' '>OVF 8</text>' '>UNF -4</text>' '>HIP, high preset</text>' \
-    '>UNF, underflow limit</text>' '>1 rollover past OVF</text>' '>1 reset by input 2</text>' \
+    '>UNF, underflow limit</text>' '>1 rollover past OVF</text>' '>1 reset</text>' \
     '>4 blank events in 1 gap, shaded</text>'; do
     says small.svg "$words"
 done
@@ -213,7 +213,7 @@ night rolled
 marked rolled overflows 2 '2 rollovers past OVF'
 marked rolled underflows 1 '1 rollover past UNF'
 marked rolled returns 0
-marked rolled resets 3 '3 resets by input 2'
+marked rolled resets 3 '3 resets'
 draws late.svg rolled.trace --from 22
 marked late overflows 1 '1 rollover past OVF'
 marked late underflows 0
@@ -229,7 +229,7 @@ marked ups resets 0
 { settings 1 2 0 2 0; pulses 0 4; pulses 2 1; } > held.txt
 night held
 marked held returns 2 '2 returns to 0 at HIP'
-marked held resets 1 '1 reset by input 2'
+marked held resets 1 '1 reset'
 { settings 3 2 0 2 0; pulses 0 3; } > zero.txt
 night zero
 marked zero overflows 1 '1 rollover past OVF'
