@@ -175,7 +175,7 @@ fn more_events_than_an_image_may_have() {
     });
 }
 
-/// On the model's status alone: no test runs on the 48 GiB of events that such a place takes.
+/// On the model's status alone; `c/past.c` has the archive's, over 48 GiB of events.
 #[test]
 fn a_place_past_32_bits_stands_as_the_largest() {
     let most = u32::MAX as usize;
