@@ -3,7 +3,7 @@
 use mathlib.Core.Path.{_≡_}
 use mathlib.Core.Logic.{_↔_}
 use mathlib.Core.List.{List, [], _++_}
-use Prim.Native.Nat.{ℕ, _+_, _-_, _*_, _≤_, _<_}
+use Prim.Native.Nat.{ℕ, _+_, _-_, _*_, _<_}
 use lib.IntN.{ℤ}
 use lib.ListN.{length, getD}
 use Rattle.word.specs.Part.{Bytes, part}
@@ -20,7 +20,7 @@ use Rattle.image.specs.Header.{eventCount}
 use Rattle.image.specs.Rows.{eventArea}
 use Rattle.image.specs.Verdicts.{ValidTrace}
 use Rattle.image_replay.specs.Replays.{finalSnapshot}
-use Rattle.draw.specs.Drawing.{drawVerdict, drawSnapshot, counts, drawRow}
+use Rattle.draw.specs.Drawing.{drawVerdict, drawSnapshot, drawRow}
 use Rattle.hsc.specs.Calls.{stepVerdict, stepAfter, stepsAfter, readVerdict, readAfter}
 use Rattle.draw.proofs as draw
 use Rattle.hsc.proofs as hsc

@@ -1,15 +1,15 @@
 -- What 9, 5 and 6 leave: drawing is not refused exactly where the snapshot is well formed, the events are legal and the row has one
 -- number for each.
-use mathlib.Core.Path.{_≡_, refl, sym, ap, _∙_}
+use mathlib.Core.Path.{_≡_, sym}
 use mathlib.Core.Logic.{_↔_}
-use mathlib.Core.Bool.{Bool, true, false, not, _||_}
+use mathlib.Core.Bool.{Bool, true, not, _||_}
 use mathlib.Core.List.{List}
 use Prim.Native.Nat.{ℕ, _*_, _%_, _<_}
 use native.Mathlib.Omega.{arith}
 use borrow.Author.Tests.{eqb-true, eq-eqb, not-false}
 use lib.Dec.{eqb}
 use lib.ListN.{length}
-use Rattle.refusal.specs.Refusals.{given, told}
+use Rattle.refusal.specs.Refusals.{given}
 use Rattle.refusal.proofs.Answers.{passed, none-of, both-passed, told-passed}
 use Rattle.replay.proofs.Scan.{legalAt}
 use Rattle.snapshot.specs.Widths.{eventSize}

@@ -17,7 +17,6 @@ use Rattle.replay.proofs.Scan.{legalAt}
 use Rattle.snapshot.specs.Widths.{eventSize}
 use Rattle.image.specs.declared.edition.Edition.{Edition}
 use Rattle.image.specs.Editions.{system, accOf}
-use Rattle.image.specs.Rows.{eventsIn}
 use Rattle.draw.specs.Counts.{afterEach}
 use Rattle.draw.specs.Drawing.{drawVerdict, drawSnapshot, counts, drawRow}
 use Rattle.draw.proofs.Counts.{after-add, after-from, after-read}

@@ -1,25 +1,24 @@
 -- What drawing leaves: the row has the accumulator after each event, and the snapshot is that of the state after all of them, which is good,
 -- so that it is well formed and is read back.
-use mathlib.Core.Path.{_≡_, refl, sym, ap, _∙_}
+use mathlib.Core.Path.{_≡_, ap, _∙_}
 use mathlib.Core.Bool.{true}
 use mathlib.Core.List.{List}
 use Prim.Native.Nat.{ℕ, _+_, _-_, _*_, _≤_, _<_}
 use native.Mathlib.Omega.{arith}
 use lib.IntN.{ℤ}
 use lib.ListN.{length, getD}
-use Rattle.word.specs.Part.{Bytes, part}
+use Rattle.word.specs.Part.{Bytes}
 use Rattle.word.proofs.Part.{length-part, bytes-part}
-use Rattle.refusal.specs.Refusals.{Answer, given, changedIf}
-use Rattle.replay.specs.System.{System, Legal, Sized}
+use Rattle.replay.specs.System.{System, Sized}
 use Rattle.replay.specs.Image.{Shape, event}
 use Rattle.replay.specs.Events.{run}
-use Rattle.replay.proofs.Run.{run-good, events-first}
+use Rattle.replay.proofs.Run.{run-good}
 use Rattle.snapshot.specs.Widths.{eventSize}
 use Rattle.image.specs.declared.edition.Edition.{Edition}
 use Rattle.image.specs.Editions.{system, accOf}
 use Rattle.image.specs.Rows.{eventsIn}
 use Rattle.image.proofs.Laws.{laws}
-use Rattle.draw.specs.Drawing.{drawVerdict, stateAfter, drawSnapshot, counts, drawRow}
+use Rattle.draw.specs.Drawing.{drawSnapshot, counts, drawRow}
 use Rattle.draw.proofs.Counts.{length-after, after-at}
 use Rattle.draw.proofs.Accepted.{Drawable, row-count, drawable}
 

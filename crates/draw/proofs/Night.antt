@@ -1,12 +1,11 @@
 -- Drawing all events of a valid image, from the snapshot that its replay starts from, leaves replay's final snapshot.
-use mathlib.Core.Path.{_≡_, sym, ap, _∙_}
+use mathlib.Core.Path.{_≡_, ap, _∙_}
 use mathlib.Core.List.{List}
 use Prim.Native.Nat.{ℕ, _+_, _*_, _<_}
 use native.Mathlib.Omega.{arith}
 use Rattle.word.specs.Part.{Bytes, part}
 use Rattle.refusal.specs.Refusals.{given}
 use Rattle.replay.specs.System.{System, Laws}
-use Rattle.replay.specs.Image.{Shape}
 use Rattle.replay.specs.Events.{run}
 use Rattle.replay.specs.Replay as replay
 use Rattle.replay.proofs.Run.{run-read}

@@ -8,7 +8,7 @@ use refusal::told_place;
 use snapshot::EVENT_SIZE;
 ghost use mathlib.Core.Path.{_≡_};
 ghost use lib.ListN.{length};
-ghost use Rattle.refusal.specs.Refusals.{verdictOf, _andThen_};
+ghost use Rattle.refusal.specs.Refusals.{verdictOf};
 ghost use Rattle.image.specs.Editions.{system};
 ghost use Rattle.draw.specs.Drawing.{sizesVerdict, legalVerdict, formVerdict, drawVerdict};
 

@@ -1,6 +1,6 @@
 -- Drawing beside stepping and reading: one event drawn is the step, and many leave what so many steps leave, each number being what
 -- reading then shows.
-use mathlib.Core.Path.{_≡_, refl, sym, ap, ap₂, _∙_}
+use mathlib.Core.Path.{_≡_, refl, sym, ap, _∙_}
 use mathlib.Core.Bool.{Bool, true, false, cond, not, _||_}
 use mathlib.Core.List.{List, []}
 use Prim.Native.Nat.{ℕ, zero, suc, _+_, _-_, _*_, _/_, _%_, _≤_, _<_}
@@ -15,19 +15,19 @@ use Rattle.word.proofs.Part.{length-part, part-whole}
 use Rattle.refusal.specs.Refusals.{Answer, refusedIn, refused, given, told, _andThen_, changedIf}
 use Rattle.refusal.proofs.Answers.{changed-same}
 use Rattle.replay.specs.Events.{firstIllegal, run}
-use Rattle.replay.proofs.Run.{run-one, run-next}
+use Rattle.replay.proofs.Run.{run-one}
 use Rattle.counter.specs.declared.state.Counter.{Counter}
 use Rattle.counter.specs.WellFormed.{Good}
 use Rattle.snapshot.specs.Widths.{snapshotSize, eventSize}
 use Rattle.snapshot.specs.Snapshots.{encode, decode}
 use Rattle.snapshot.specs.FormedBytes.{formed}
-use Rattle.snapshot.specs.EventBytes.{legalEvent, stepEvent}
+use Rattle.snapshot.specs.EventBytes.{legalEvent}
 use Rattle.snapshot.proofs.RoundTrip.{length-encode, decode-encode, encode-decode, formed-encode}
 use Rattle.image.specs.declared.edition.Edition.the-variants.{Base}
 use Rattle.image.specs.Editions.{base}
 use Rattle.image.specs.Rows.{eventsIn}
 use Rattle.image.specs.Verdicts.{eventsVerdict}
-use Rattle.draw.specs.Drawing.{badSizes, sizesVerdict, legalVerdict, formVerdict, drawVerdict, drawSnapshot, counts, drawRow}
+use Rattle.draw.specs.Drawing.{sizesVerdict, legalVerdict, formVerdict, drawVerdict, drawSnapshot, drawRow}
 use Rattle.draw.proofs.Accepted.{Drawable, drawn}
 use Rattle.draw.proofs.Left.{snapshot-left, row-at, after-good}
 use Rattle.hsc.specs.Fields.{fieldsOf}
@@ -159,7 +159,9 @@ module _ (s events : List ℕ) (row : List ℤ) (v : drawVerdict Base s events (
   unfolding stepsAfter run
   steps-state zero h = sym (encode-decode s bytes-s (can .sized))
   steps-state (suc n) h =
-      ap (λ (t : List ℕ). stepAfter t (eventAt n)) (steps-state n (omega arith)) ∙ rw (step-from n (omega arith), decode-encode (state n) (good n (omega arith)), zero-add)
+      let one : stepAfter (encode (state n)) (eventAt n) ≡ encode (state (suc n)) =
+      rw (step-from n (omega arith), decode-encode (state n) (good n (omega arith)), zero-add) in
+      ap (λ (t : List ℕ). stepAfter t (eventAt n)) (steps-state n (omega arith)) ∙ one
 
   -- no step is refused, and all of them leave what drawing leaves
   pub steps-taken : (i : ℕ) → i < length row → stepVerdict (stepsAfter s events i) (eventAt i) ≡ given tt

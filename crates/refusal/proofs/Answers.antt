@@ -125,7 +125,8 @@ status-kept (refusedIn n t p) old new h = refl
 status-kept (given tt) old new h = absurd (h refl)
 
 -- what is left goes by what is given alone
-pub changed-same : {A : Type 0} (a : Answer Unit) (old : List A) {new other : List A} → (a ≡ given tt → new ≡ other) → changedIf a old new ≡ changedIf a old other
+pub changed-same : {A : Type 0} (a : Answer Unit) (old : List A) {new other : List A} → (a ≡ given tt → new ≡ other)
+    → changedIf a old new ≡ changedIf a old other
 changed-same (refusedIn n t p) old h = refl
 changed-same (given tt) old h = h refl
 

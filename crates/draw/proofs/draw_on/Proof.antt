@@ -13,7 +13,6 @@ use Rattle.word.specs.Part.{put}
 use Rattle.replay.specs.System.{System, Held}
 use Rattle.replay.specs.Events.{run}
 use Rattle.replay.proofs.Run.{run-zero, run-add, run-at}
-use Rattle.snapshot.specs.Widths.{eventSize}
 use Rattle.image.specs.declared.edition.Edition.{Edition}
 use Rattle.image.specs.Editions.{system, accOf}
 use Rattle.draw.specs.Counts.{afterEach}

@@ -1,7 +1,6 @@
 -- `draw::check::form_verdict` meets its contract: the snapshot is the whole buffer.
 use borrow.Author.Needs.{needs}
-use mathlib.Core.Path.{_≡_, sym, ap, _∙_}
-use mathlib.Core.Bool.{Bool}
+use mathlib.Core.Path.{_≡_, ap, _∙_}
 use denote.Ref.{now}
 use Rattle.word.proofs.Part.{part-whole}
 use Rattle.refusal.proofs.Answers.{test-passes, test-refuses}

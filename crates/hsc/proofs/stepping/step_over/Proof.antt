@@ -10,7 +10,7 @@ use Rattle.word.specs.Part.{part, put}
 use Rattle.word.proofs.Part.{part-whole, put-whole}
 use Rattle.replay.proofs.Run.{run-one}
 use Rattle.counter.specs.WellFormed.{Good}
-use Rattle.snapshot.specs.Widths.{snapshotSize, eventSize}
+use Rattle.snapshot.specs.Widths.{snapshotSize}
 use Rattle.snapshot.specs.Snapshots.{encode, decode}
 use Rattle.snapshot.specs.EventBytes.{stepEvent}
 use Rattle.snapshot.specs.Split.{splitState}

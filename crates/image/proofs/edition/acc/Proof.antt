@@ -1,5 +1,4 @@
 -- `image::edition::acc` meets its contract: each edition reads its own accumulator.
-use borrow.Author.Needs.{needs}
 use mathlib.Core.Path.{_∙_}
 use mir.Facts.{toZ-ofZ}
 use Rattle.image.proofs.Laws.{is-base}
