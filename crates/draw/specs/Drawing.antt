@@ -25,7 +25,7 @@ badSizes ed snapshot events room =
 unfoldable pub sizesVerdict : Edition → List ℕ → List ℕ → ℕ → Answer Unit
 sizesVerdict ed snapshot events room = cond (badSizes ed snapshot events room) (refused 9 0) (given tt)
 
--- 5 at the first illegal event
+-- 5 at the first illegal event, by its place as a status tells it
 unfoldable pub legalVerdict : Edition → List ℕ → Answer Unit
 legalVerdict ed events = told (eventsVerdict (system ed) 5 events 0 (eventsIn events))
 

@@ -1,6 +1,4 @@
 // Drawing (document 02, request 2): the accumulator after each of many events into a lent row, and the snapshot after all of them.
-pub mod check;
-
 use crate::check::draw_verdict;
 use image::edition;
 use image::edition::Edition;
@@ -20,6 +18,8 @@ ghost use Rattle.snapshot.specs.Widths.{eventSize};
 ghost use Rattle.image.specs.Editions.{system, accOf};
 ghost use Rattle.draw.specs.Counts.{afterEach};
 ghost use Rattle.draw.specs.Drawing.{drawVerdict, stateAfter, drawSnapshot, counts, drawRow};
+
+mod check;
 
 // Takes as many events as the row has numbers over the state, and writes the accumulator after each.
 fn draw_on(ed: Edition, events: &[u8], state: &mut [u8], moving: &mut [u8], row: &mut [i32])
