@@ -3,14 +3,14 @@
 use mathlib.Core.Path.{_≡_}
 use mathlib.Core.Logic.{_↔_}
 use mathlib.Core.List.{List, [], _++_}
-use Prim.Native.Nat.{ℕ, _+_, _-_, _*_, _<_}
+use Prim.Native.Nat.{ℕ, _+_, _-_, _*_, _^_, _≤_, _<_}
 use lib.IntN.{ℤ}
 use lib.ListN.{length, getD}
 use Rattle.word.specs.Part.{Bytes, part}
 use Rattle.counter.specs.Parts.{fresh}
 use Rattle.snapshot.specs.Widths.{eventSize}
 use Rattle.snapshot.specs.Snapshots.{encode}
-use Rattle.refusal.specs.Refusals.{Answer, given, Placed, told}
+use Rattle.refusal.specs.Refusals.{Answer, refusedIn, given, Placed, told}
 use Rattle.refusal.proofs.Answers as refusals
 use Rattle.replay.specs.Events.{run}
 use Rattle.image.specs.declared.edition.Edition.{Edition}
@@ -32,12 +32,15 @@ pub draw-accepted : (ed : Edition) (snapshot events : List ℕ) (room : ℕ)
     → (drawVerdict ed snapshot events room ≡ given tt) ↔ draw.Accepted.Drawable ed snapshot events room
 draw-accepted = draw.Accepted.draw-accepted
 
--- a refusal's place fits its half of the status; one that fits is told as it is
+-- a refusal's place fits its half of the status: one that fits is told as it is, one past it as the last that does
 pub draw-placed : (ed : Edition) (snapshot events : List ℕ) (room : ℕ) → Placed (drawVerdict ed snapshot events room)
 draw-placed = draw.Bounds.draw-placed
 
 pub told-placed : {A : Type 0} (a : Answer A) → Placed a → told a ≡ a
 told-placed = refusals.told-placed
+
+pub told-past : {A : Type 0} (number trace place : ℕ) → 2 ^ 32 ≤ place → told {A = A} (refusedIn number trace place) ≡ refusedIn number trace (2 ^ 32 - 1)
+told-past = refusals.told-past
 
 -- ---- what is left, in every edition
 

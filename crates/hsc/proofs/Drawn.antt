@@ -136,22 +136,22 @@ module _ (s events : List ℕ) (row : List ℤ) (v : drawVerdict Base s events (
   good : (n : ℕ) → n ≤ length row → Good (state n)
   good = after-good Base s events can bytes-s bytes-e
 
-  abbrev eventAt : ℕ → List ℕ
-  eventAt n = part events (n * eventSize) eventSize
+  abbrev eventBytes : ℕ → List ℕ
+  eventBytes n = part events (n * eventSize) eventSize
 
   -- a step from there
-  step-from : (n : ℕ) → n < length row → stepVerdict (encode (state n)) (eventAt n) ≡ given tt
+  step-from : (n : ℕ) → n < length row → stepVerdict (encode (state n)) (eventBytes n) ≡ given tt
   unfolding stepVerdict
   step-from n h =
       let inside : n * eventSize + eventSize ≤ length events = omega (arith, can .whole) in
       rw (
         eq-eqb (length (encode (state n))) snapshotSize (length-encode (state n)),
-        eq-eqb (length (eventAt n)) eventSize (length-part events (n * eventSize) eventSize inside),
+        eq-eqb (length (eventBytes n)) eventSize (length-part events (n * eventSize) eventSize inside),
         legal-at n h,
         formed-encode (state n) (good n (omega arith)),
       )
     where
-      legal-at : (k : ℕ) → k < length row → legalEvent (eventAt k) ≡ true
+      legal-at : (k : ℕ) → k < length row → legalEvent (eventBytes k) ≡ true
       legal-at k l = rw zero-add at (can .legal k l)
 
   -- n steps
@@ -159,13 +159,13 @@ module _ (s events : List ℕ) (row : List ℤ) (v : drawVerdict Base s events (
   unfolding stepsAfter run
   steps-state zero h = sym (encode-decode s bytes-s (can .sized))
   steps-state (suc n) h =
-      let one : stepAfter (encode (state n)) (eventAt n) ≡ encode (state (suc n)) =
+      let one : stepAfter (encode (state n)) (eventBytes n) ≡ encode (state (suc n)) =
       rw (step-from n (omega arith), decode-encode (state n) (good n (omega arith)), zero-add) in
-      ap (λ (t : List ℕ). stepAfter t (eventAt n)) (steps-state n (omega arith)) ∙ one
+      ap (λ (t : List ℕ). stepAfter t (eventBytes n)) (steps-state n (omega arith)) ∙ one
 
   -- no step is refused, and all of them leave what drawing leaves
-  pub steps-taken : (i : ℕ) → i < length row → stepVerdict (stepsAfter s events i) (eventAt i) ≡ given tt
-  steps-taken i h = ap (λ (t : List ℕ). stepVerdict t (eventAt i)) (steps-state i (omega arith)) ∙ step-from i h
+  pub steps-taken : (i : ℕ) → i < length row → stepVerdict (stepsAfter s events i) (eventBytes i) ≡ given tt
+  steps-taken i h = ap (λ (t : List ℕ). stepVerdict t (eventBytes i)) (steps-state i (omega arith)) ∙ step-from i h
 
   pub draw-steps : drawSnapshot Base s events (length row) ≡ stepsAfter s events (length row)
   draw-steps = snapshot-left Base s events can ∙ sym (steps-state (length row) (omega arith))

@@ -3,7 +3,7 @@
 use mathlib.Core.Path.{_≡_, refl, sym, ap, _∙_}
 use mathlib.Core.Bool.{Bool, true, false, cond, not, _||_, false≢true}
 use mathlib.Core.List.{List}
-use Prim.Native.Nat.{ℕ, _≤_}
+use Prim.Native.Nat.{ℕ, _-_, _^_, _≤_}
 use native.Mathlib.Omega.{arith}
 use Rattle.refusal.specs.declared.Trace.{Trace}
 use Rattle.refusal.specs.declared.Trace.the-variants.{First, Second}
@@ -141,10 +141,13 @@ pub placed-in : {A : Type 0} (t : Trace) (a : Answer A) → Placed a → Placed 
 placed-in t (refusedIn n s p) h = h
 placed-in t (given x) h = h
 
--- a place that fits is told as it is, and one that does not as the last
+-- a place that fits is told as it is, and one past it as the last that does
 pub told-placed : {A : Type 0} (a : Answer A) → Placed a → told a ≡ a
 told-placed (refusedIn n t p) h = ap (refusedIn n t) (omega arith)
 told-placed (given x) h = refl
+
+pub told-past : {A : Type 0} (number trace place : ℕ) → 2 ^ 32 ≤ place → told {A = A} (refusedIn number trace place) ≡ refusedIn number trace (2 ^ 32 - 1)
+told-past number trace place h = ap (refusedIn number trace) (omega arith)
 
 pub placed-told : {A : Type 0} (a : Answer A) → Placed (told a)
 placed-told (refusedIn n t p) = omega arith
