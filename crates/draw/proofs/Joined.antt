@@ -12,14 +12,14 @@ use Rattle.word.proofs.Part.{part-append, part-past}
 use Rattle.refusal.specs.Refusals.{given}
 use Rattle.replay.specs.System.{System}
 use Rattle.replay.specs.Events.{run}
+use Rattle.replay.specs.Counts.{afterEach}
 use Rattle.replay.proofs.Run.{run-add, run-read}
 use Rattle.replay.proofs.Scan.{legalAt}
+use Rattle.replay.proofs.Counts.{after-add, after-from, after-read}
 use Rattle.snapshot.specs.Widths.{eventSize}
 use Rattle.image.specs.declared.edition.Edition.{Edition}
 use Rattle.image.specs.Editions.{system, accOf}
-use Rattle.draw.specs.Counts.{afterEach}
 use Rattle.draw.specs.Drawing.{drawVerdict, drawSnapshot, counts, drawRow}
-use Rattle.draw.proofs.Counts.{after-add, after-from, after-read}
 use Rattle.draw.proofs.Accepted.{Drawable, row-count, drawn, drawable}
 use Rattle.draw.proofs.Left.{snapshot-left, row-left, left-sized, left-formed, left-decoded}
 

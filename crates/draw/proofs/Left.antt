@@ -13,13 +13,13 @@ use Rattle.replay.specs.System.{System, Sized}
 use Rattle.replay.specs.Image.{Shape, event}
 use Rattle.replay.specs.Events.{run}
 use Rattle.replay.proofs.Run.{run-good}
+use Rattle.replay.proofs.Counts.{length-after, after-at}
 use Rattle.snapshot.specs.Widths.{eventSize}
 use Rattle.image.specs.declared.edition.Edition.{Edition}
 use Rattle.image.specs.Editions.{system, accOf}
 use Rattle.image.specs.Rows.{eventsIn}
 use Rattle.image.proofs.Laws.{laws}
 use Rattle.draw.specs.Drawing.{drawSnapshot, counts, drawRow}
-use Rattle.draw.proofs.Counts.{length-after, after-at}
 use Rattle.draw.proofs.Accepted.{Drawable, row-count, drawable}
 
 module _ (ed : Edition) (snapshot events : List ℕ) {room : ℕ} (can : Drawable ed snapshot events room) where

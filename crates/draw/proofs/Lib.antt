@@ -1,5 +1,4 @@
 -- Laws of the definitions of `draw`.
-mod Counts
 pub mod Accepted
 pub mod Bounds
 pub mod Left

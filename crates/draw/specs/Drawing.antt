@@ -7,12 +7,12 @@ use lib.IntN.{ℤ}
 use lib.ListN.{length}
 use Rattle.refusal.specs.Refusals.{Answer, refused, given, told, _andThen_, changedIf}
 use Rattle.replay.specs.Events.{run}
+use Rattle.replay.specs.Counts.{afterEach}
 use Rattle.snapshot.specs.Widths.{eventSize}
 use Rattle.image.specs.declared.edition.Edition.{Edition}
 use Rattle.image.specs.Editions.{system, accOf}
 use Rattle.image.specs.Rows.{eventsIn}
 use Rattle.image.specs.Verdicts.{eventsVerdict}
-use Rattle.draw.specs.Counts.{afterEach}
 
 -- ---- what is refused, with a row of room numbers
 

@@ -1,3 +1,2 @@
 -- Document 02, request 2: the count of a night as a row of numbers. Read in this order.
-pub mod Counts
 pub mod Drawing

@@ -4,42 +4,23 @@ use image::edition;
 use image::edition::Edition;
 use image::edition::MAX_BESIDE;
 use image::edition::MAX_SIZE;
-use image::events::advance;
+use image::events::advance_drawing;
 use refusal::Verdict;
-use snapshot::EVENT_SIZE;
 ghost use mathlib.Core.Path.{_≡_};
 ghost use mathlib.Core.Bool.{true};
 ghost use Prim.Native.Nat.{_*_};
 ghost use lib.ListN.{length};
 ghost use Rattle.refusal.specs.Refusals.{verdictOf, given};
-ghost use Rattle.replay.specs.System.{Held};
 ghost use Rattle.replay.specs.Events.{run};
+ghost use Rattle.replay.specs.Counts.{afterEach};
 ghost use Rattle.snapshot.specs.Widths.{eventSize};
 ghost use Rattle.image.specs.Editions.{system, accOf};
-ghost use Rattle.draw.specs.Counts.{afterEach};
 ghost use Rattle.draw.specs.Drawing.{drawVerdict, stateAfter, drawSnapshot, counts, drawRow};
 
 mod check;
 
-// Takes as many events as the row has numbers over the state, and writes the accumulator after each.
-fn draw_on(ed: Edition, events: &[u8], state: &mut [u8], moving: &mut [u8], row: &mut [i32])
-    requires { ⌜ (length (now events) ≡ length (now row) * eventSize) × Held (system ed) (now state) (now moving) ⌝ }
-    ensures state { λ _. ⌜ system ed .stateIn (now (state .exit)) (now (moving .exit))
-        ≡ run (system ed) (system ed .stateIn (now (state .entry)) (now (moving .entry))) (now (events .entry)) 0 (length (now (row .entry))) ⌝ }
-    ensures held { λ _. ⌜ Held (system ed) (now (state .exit)) (now (moving .exit)) ⌝ }
-    ensures row { λ _. ⌜ now (row .exit)
-        ≡ afterEach (system ed) (accOf ed) (system ed .stateIn (now (state .entry)) (now (moving .entry))) (now (events .entry)) 0 0
-        (length (now (row .entry))) ⌝ }
-{
-    let mut i = 0;
-    while i < row.len() {
-        advance(ed, events, i * EVENT_SIZE, 1, state, moving);
-        row[i] = edition::acc(ed, state, moving);
-        i += 1;
-    }
-}
-
-// The same from a well-formed snapshot, over which that of the state after all events is written.
+// Takes as many events as the row has numbers from a well-formed snapshot on, writes the accumulator after each, and over the snapshot that
+// of the state after all of them.
 fn draw_in(
     ed: Edition,
     snapshot: &mut [u8],
@@ -57,7 +38,7 @@ fn draw_in(
         ≡ afterEach (system ed) (accOf ed) (system ed .decode (now (snapshot .entry))) (now (events .entry)) 0 0 (length (now (row .entry))) ⌝ }
 {
     edition::load(ed, snapshot, 0, state, moving);
-    draw_on(ed, events, state, moving, row);
+    advance_drawing(ed, events, 0, row.len(), state, moving, row);
     edition::write(ed, snapshot, 0, state, moving);
 }
 

@@ -3,6 +3,7 @@ pub mod Image
 pub mod Changed
 pub mod Start
 pub mod Run
+pub mod Counts
 pub mod Replay
 pub mod Rest
 pub mod Mend

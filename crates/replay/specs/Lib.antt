@@ -2,6 +2,7 @@
 pub mod System
 pub mod Image
 pub mod Events
+pub mod Counts
 pub mod Replay
 pub mod Mend
 pub mod Claim

@@ -6,9 +6,9 @@ use denote.Ref.{now}
 use lib.ListN.{length}
 use Rattle.word.proofs.Part.{part-whole, put-whole}
 use Rattle.replay.specs.Events.{run}
+use Rattle.replay.specs.Counts.{afterEach}
 use Rattle.image.specs.Editions.{system, accOf}
 use Rattle.image.proofs.Laws.{laws}
-use Rattle.draw.specs.Counts.{afterEach}
 use Rattle.draw.proofs.draw_in.Statement.{statement}
 use Rattle.draw.proofs.draw_in.Tie as tie
 
@@ -24,8 +24,11 @@ load-requires c κs =
       ),
     )
 
-draw-on-requires : tie.Need-draw-on-requires
-draw-on-requires c κs = search needs
+advance-drawing-requires : tie.Need-advance-drawing-requires
+advance-drawing-requires c κs =
+    let load = c .before .before .before .before .before .before .before in
+    let start = load .before .before .before .before .before .before .before .before in
+    ((omega (arith, start .pre .1 .0), load .load .ensures .1), omega arith)
 
 write-requires : tie.Need-write-requires
 write-requires c κs = search needs
@@ -54,11 +57,11 @@ returns c =
     let n = length (now (a .row)) in
     let sized = start .pre .0 .0 in
     let loaded = load .load .ensures .0 ∙ ap (S .decode) (part-whole (now (a .snapshot)) _ sized) in
-    let size = laws (a .ed) .sized-encode _ (over .draw-on .ensures .1 .0 .good) .whole in (
+    let size = laws (a .ed) .sized-encode _ (over .advance-drawing .ensures .1 .0 .good) .whole in (
       wrote .write .ensures
           ∙ put-whole (now (a .snapshot)) _ (sized ∙ sym size)
-          ∙ ap (S .encode) (over .draw-on .ensures .0 ∙ ap (λ (s : S .State). run S s events 0 n) loaded),
-      over .draw-on .ensures .1 .1 ∙ ap (λ (s : S .State). afterEach S (accOf (a .ed)) s events 0 0 n) loaded,
+          ∙ ap (S .encode) (over .advance-drawing .ensures .0 ∙ ap (λ (s : S .State). run S s events 0 n) loaded),
+      over .advance-drawing .ensures .1 .1 ∙ ap (λ (s : S .State). afterEach S (accOf (a .ed)) s events 0 0 n) loaded,
     )
 
 pub draw-in-spec : {M : Type 1} → statement M
@@ -66,7 +69,7 @@ draw-in-spec =
     tie.close
     (tie.spec
     load-requires
-    draw-on-requires
+    advance-drawing-requires
     write-requires
     same-length
     same-length-2

@@ -5,9 +5,9 @@ use Prim.Native.Nat.{ℕ}
 use denote.Ref.{now}
 use lib.ListN.{length}
 use Rattle.replay.specs.Events.{run}
+use Rattle.replay.specs.Counts.{afterEach}
 use Rattle.replay.proofs.Iterations.{length-front}
 use Rattle.image.specs.Editions.{system, accOf}
-use Rattle.draw.specs.Counts.{afterEach}
 use Rattle.draw.proofs.Accepted.{row-count, drawn}
 use Rattle.draw.proofs.draw_valid.Statement.{statement}
 use Rattle.draw.proofs.draw_valid.Tie as tie
