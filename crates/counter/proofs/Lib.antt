@@ -6,6 +6,7 @@ pub mod Exact
 pub mod FirstBroken
 pub mod Flags
 pub mod Formed
+pub mod Idle
 pub mod Interrupting
 pub mod Legal
 pub mod LoadEffects

@@ -2,7 +2,8 @@
 use super::state::Count;
 use word::bits;
 ghost use mathlib.Core.Path.{_≡_};
-ghost use Prim.Native.Nat.{_<_};
+ghost use mathlib.Core.Bool.{true, false};
+ghost use Prim.Native.Nat.{ℕ, _<_};
 ghost use Rattle.word.specs.Masks.{bit};
 ghost use Rattle.counter.specs.Sample.{rises, falls, hasReset, direction, aloneUp, byLevel, byInput, byPhase};
 
@@ -28,6 +29,13 @@ fn falls(old: u8, new: u8, n: u32) -> bool
     ensures { λ r. ⌜ r ≡ falls old new n ⌝ }
 {
     is_on(old, n) & !is_on(new, n)
+}
+
+// Whether no input goes from off to on, told by one test of all levels.
+pub fn none_rises(old: u8, new: u8) -> bool
+    ensures { λ r. ⌜ (r ≡ true → (n : ℕ) → n < 8 → rises old new n ≡ false) ⌝ }
+{
+    new & !old == 0
 }
 
 // Modes 1, 3, 5 and 7 have a reset and a hold.

@@ -9,6 +9,7 @@ use super::state::Counter;
 use super::state::Sampled;
 use word::bits;
 ghost use mathlib.Core.Path.{_≡_};
+ghost use mathlib.Core.Bool.{true};
 ghost use lib.IntN.{pos};
 ghost use Rattle.counter.specs.Sample.{sampledAs, unmoved, countedUp, countedDown, countedBy, resets, mayCount, count, sampled, sample};
 
@@ -97,6 +98,13 @@ fn reset(flags: u32) -> Sampled
         flags,
         cause: 0,
     }
+}
+
+// Whether nothing comes of the sample but its levels: no input rises, in a mode that goes by rises alone. It need not find every such sample.
+pub fn is_idle(c: Counter, new: u8) -> bool
+    ensures { λ r. ⌜ (r ≡ true → sampled new c ≡ unmoved c) ⌝ }
+{
+    inputs::none_rises(c.levels, new) & (rules::mode(c) < 6)
 }
 
 // What the sample makes of ACC and the flags.

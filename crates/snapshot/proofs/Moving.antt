@@ -1,18 +1,21 @@
--- A state in a snapshot's bytes and in the numbers beside them: what the two hold, and the snapshot that they make. Every law but the
--- first and the last three is over the list of the numbers' indices, whichever it names.
+-- A state in a snapshot's bytes and in the numbers beside them: what the two hold, and the snapshot that they make. Every law but those
+-- of the first and the last section is over the list of the numbers' indices, whichever it names.
 use mathlib.Core.Path.{_≡_, refl, sym, ap, _∙_, subst}
 use mathlib.Core.List.{List, [], _∷_}
 use Prim.Native.Nat.{ℕ, _+_, _^_, _≤_, _<_}
 use native.Mathlib.Omega.{arith}
+use lib.Dec.{lit≤}
 use lib.IntN.{ℤ}
-use lib.ListN.{length, getD, set}
+use lib.ListN.{length, getD, set, length-set}
+use lib.Seq.{getD-set-same}
 use mir.Syntax.{w32}
 use mir.Val.{SFits}
 use Rattle.word.specs.Part.{Bytes, part, put}
-use Rattle.word.specs.LittleEndian.{toBytes, numberAt}
+use Rattle.word.specs.LittleEndian.{toBytes, ofBytes, numberAt}
 use Rattle.word.specs.TwosComplement.{signed, unsigned}
 use Rattle.word.specs.Layouts.{total, pack, unpack, Held, none, more, pick, replace}
-use Rattle.word.proofs.Part.{length-part, bytes-part, part-whole, put-part, put-whole}
+use Rattle.word.proofs.Part.{length-part, bytes-part, part-whole, part-put-before, put-part, put-whole}
+use Rattle.word.proofs.Put.{set-put}
 use Rattle.word.proofs.LittleEndian.{numberAt-one, set-byte}
 use Rattle.word.proofs.TwosComplement.{signed-unsigned, fits-unsigned}
 use Rattle.word.proofs.Layouts.{length-pack, unpack-pack, pack-unpack, held-unpack, numbersAt, unpack-from}
@@ -103,6 +106,21 @@ split-moving acc flags levels b m fits word byte =
     split-pack b (more (fits-unsigned fits .fits) (more word (more byte none)))
     ∙ ap (λ (v : ℤ). withFlags flags (withAcc v (withLevels levels (decode b)))) (signed-unsigned fits)
     ∙ sym (split-with acc flags levels b m)
+
+-- other levels beside the same snapshot
+pub split-levels : (b m : List ℕ) (l : ℕ) → length m ≡ movingSize → splitState b (set m movingLevelsAt l) ≡ withLevels l (splitState b m)
+split-levels b m l nine =
+    let here : movingLevelsAt < length m = omega (arith, nine) in
+    let t : List ℕ = set m movingLevelsAt l in
+    let kept : (k : ℕ) → k + 4 ≤ movingLevelsAt → numberAt t k 4 ≡ numberAt m k 4 =
+    λ k h. ap ofBytes
+    (ap (λ (s : List ℕ). part s k 4) (set-put m movingLevelsAt l here)
+    ∙ part-put-before m movingLevelsAt (l ∷ []) k 4 h (omega (arith, nine))) in
+    let new : numberAt t movingLevelsAt 1 ≡ l =
+    numberAt-one t movingLevelsAt (omega (arith, nine, length-set m movingLevelsAt l)) ∙ getD-set-same m movingLevelsAt l 0 here in
+    split-parts b t
+    ∙ (λ i. withFlags (kept movingFlagsAt (lit≤ tt) i) (withAcc (signed w32 (kept 0 (lit≤ tt) i)) (withLevels (new i) (decode b))))
+    ∙ ap (withLevels l) (sym (split-parts b m))
 
 -- written side by side
 pub moving-written : (m : List ℕ) {t u w : List ℕ} {n a g f l : ℕ} → length m ≡ movingSize → n ≡ a → t ≡ put m 0 (toBytes 4 n)

@@ -147,16 +147,21 @@ fn read_without_desk(s: &[u8], moving: &[u8]) -> Counter
     c
 }
 
-// A sample; where it raises no cause, the snapshot's bytes are not touched.
+// A sample; where it raises no cause, the snapshot's bytes are not touched, and where nothing comes of it, only the levels are written.
 fn sample_over(s: &mut [u8], moving: &mut [u8], new: u8)
     requires { ⌜ (length (now s) ≡ snapshotSize) × (length (now moving) ≡ movingSize) ⌝ }
     ensures { λ _. ⌜ HoldsIfGood (sample new (splitState (now (s .entry)) (now (moving .entry)))) (now (s .exit)) (now (moving .exit)) ⌝ }
 {
-    let r = sampling::sampled(read_without_desk(s, moving), new);
-    if r.cause == 0 {
-        write_moving(moving, r.acc, r.flags, new);
+    let c = read_without_desk(s, moving);
+    if sampling::is_idle(c, new) {
+        moving[places::MOVING_LEVELS] = new;
     } else {
-        raise_over(s, moving, r.acc, r.flags, new, r.cause);
+        let r = sampling::sampled(c, new);
+        if r.cause == 0 {
+            write_moving(moving, r.acc, r.flags, new);
+        } else {
+            raise_over(s, moving, r.acc, r.flags, new, r.cause);
+        }
     }
 }
 
