@@ -1,6 +1,6 @@
 -- `image::events::advance_drawing` meets its contract. The invariant: the lent bytes hold the state after the first i events, and with the
 -- numbers that are left the row is whole; an iteration is one event more. The measure is what is left of the events.
-use borrow.Author.Needs.{needs, scaled-fits}
+use borrow.Author.Needs.{scaled-fits}
 use mathlib.Core.Logic.{⊎-elim}
 use mathlib.Core.Path.{_≡_, refl, sym, ap, _∙_}
 use mathlib.Core.List.{List}
