@@ -1,5 +1,5 @@
--- `image::events::advance_drawing` meets its contract. The invariant: the lent bytes hold the state after the first i events, and with the
--- numbers that are left the row is whole; an iteration is one event more. The measure is what is left of the events.
+-- `image::events::advance_drawing` meets its contract. The invariant: the lent bytes hold the state after the first i events, and the row
+-- the numbers after them, as far as it goes; an iteration is one event more. The measure is what is left of the events.
 use borrow.Author.Needs.{scaled-fits}
 use mathlib.Core.Logic.{⊎-elim}
 use mathlib.Core.Path.{_≡_, refl, sym, ap, _∙_}
@@ -21,17 +21,21 @@ use Rattle.image.specs.Editions.{system, accOf}
 use Rattle.image.proofs.events.advance_drawing.Statement.{statement}
 use Rattle.image.proofs.events.advance_drawing.Tie as tie
 
-record Going (ed : Edition) (events : List ℕ) (at count : ℕ) (state₀ moving₀ : List ℕ) (row₀ : List ℤ) (state moving : List ℕ) (row : List ℤ) (i : ℕ)
-    : Type 0 where
+-- a row of which the first i numbers are written: with those that are left, after each event from the state s on, it is whole
+record Written (ed : Edition) (s : system ed .State) (events : List ℕ) (at : ℕ) (row₀ row : List ℤ) (i : ℕ) : Type 0 where
   long : length row ≡ length row₀
+  left : put row i (afterEach (system ed) (accOf ed) s events at i (length row₀ - i)) ≡ afterEach (system ed) (accOf ed) s events at 0 (length row₀)
+
+record Going (ed : Edition) (s : system ed .State) (events : List ℕ) (at count : ℕ) (row₀ : List ℤ) (state moving : List ℕ) (row : List ℤ) (i : ℕ)
+    : Type 0 where
   within : i ≤ count
-  reached : system ed .stateIn state moving ≡ run (system ed) (system ed .stateIn state₀ moving₀) events at i
+  reached : system ed .stateIn state moving ≡ run (system ed) s events at i
   held : Held (system ed) state moving
-  left : put row i (afterEach (system ed) (accOf ed) (system ed .stateIn state₀ moving₀) events at i (length row₀ - i))
-      ≡ afterEach (system ed) (accOf ed) (system ed .stateIn state₀ moving₀) events at 0 (length row₀)
+  written : Written ed s events at row₀ row i
 
 abbrev Inv-loop : tie.InvT-loop
-Inv-loop ed events at count state₀ moving₀ row₀ i₀ state moving row i = Going ed events at count state₀ moving₀ row₀ state moving row i
+Inv-loop ed events at count state₀ moving₀ row₀ i₀ state moving row i =
+    Going ed (system ed .stateIn state₀ moving₀) events at count row₀ state moving row i
 
 abbrev μ-loop : tie.MeasureT-loop
 μ-loop ed events at count state₀ moving₀ row₀ i₀ state moving row i = count - i
@@ -48,11 +52,10 @@ loop-holds c =
     let a = first .args in
     let s = system (a .ed) .stateIn (now (a .state)) (now (a .moving)) in
     record {
-      long = refl;
       within = omega arith;
       reached = sym (run-zero (system (a .ed)) s (now (a .events)) (a .at));
       held = first .pre .0 .1;
-      left = drawn-none (system (a .ed)) (accOf (a .ed)) s (now (a .events)) (a .at) (now (a .row));
+      written = record { long = refl; left = drawn-none (system (a .ed)) (accOf (a .ed)) s (now (a .events)) (a .at) (now (a .row)) };
     }
 
 mul-step : tie.Need-mul-step Inv-loop μ-loop
@@ -73,7 +76,7 @@ mul-t24 : tie.Need-mul-t24 Inv-loop μ-loop
 mul-t24 c =
     let test = c .before .before .before in
     let turn = in-loop (test .before .before .before .before .before) in
-    scaled-fits _ (length (now (start turn .args .row))) 4 (omega (arith, test .if1 .taken, turn .before .loop .inv .long))
+    scaled-fits _ (length (now (start turn .args .row))) 4 (omega (arith, test .if1 .taken, turn .before .loop .inv .written .long))
     (start turn .good .1 .1 .1 .1 .1 .1 .0 .1)
 
 slice-set-from-row : tie.Need-slice-set-from-row Inv-loop μ-loop
@@ -96,24 +99,24 @@ loop-again c =
     let i = turn .before .loop .i in
     let n = length (now (a .row)) in
     let going = turn .before .loop .inv in
+    let so-far = going .written in
     let reached = run-more S s (now (a .events)) (a .at) i (going .reached) (moved .step .ensures .0) in
-    ⊎-elim
-    (λ drawn. record {
-      long = rw (drawn .4, length-set) (going .long);
+    record {
       within = omega (arith, turn .loop-test .taken);
       reached = reached;
       held = moved .step .ensures .1;
-      left = rw (drawn .4) (drawn-more S (accOf (a .ed)) s (now (a .events)) (a .at) row i n (omega (arith, drawn .0 .taken, going .long)) (going .long)
-          (toZ-ofZ (record { sfits = drawn .3 .ok }) ∙ drawn .3 .ensures ∙ ap (accOf (a .ed)) reached) (going .left));
-    })
-    (λ past. record {
-      long = rw (past .1) (going .long);
-      within = omega (arith, turn .loop-test .taken);
-      reached = reached;
-      held = moved .step .ensures .1;
-      left = rw (past .1) (drawn-past S (accOf (a .ed)) s (now (a .events)) (a .at) row i n (omega (arith, past .0 .left, going .long)) (going .left));
-    })
-    (c .if1 .came)
+      written = ⊎-elim
+          (λ drawn. record {
+            long = rw (drawn .4, length-set) (so-far .long);
+            left = rw (drawn .4) (drawn-more S (accOf (a .ed)) s (now (a .events)) (a .at) row i n (omega (arith, drawn .0 .taken, so-far .long))
+                (so-far .long) (toZ-ofZ (record { sfits = drawn .3 .ok }) ∙ drawn .3 .ensures ∙ ap (accOf (a .ed)) reached) (so-far .left));
+          })
+          (λ past. record {
+            long = rw (past .1) (so-far .long);
+            left = rw (past .1) (drawn-past S (accOf (a .ed)) s (now (a .events)) (a .at) row i n (omega (arith, past .0 .left, so-far .long)) (so-far .left));
+          })
+          (c .if1 .came);
+    }
 
 same-length : tie.Need-same-length Inv-loop μ-loop
 same-length c = c .before .loop .inv .held .whole ∙ sym (c .before .before .before .before .before .pre .0 .1 .whole)
@@ -122,7 +125,7 @@ same-length-2 : tie.Need-same-length-2 Inv-loop μ-loop
 same-length-2 c = c .before .loop .inv .held .aside ∙ sym (c .before .before .before .before .before .pre .0 .1 .aside)
 
 same-length-3 : tie.Need-same-length-3 Inv-loop μ-loop
-same-length-3 c = c .before .loop .inv .long
+same-length-3 c = c .before .loop .inv .written .long
 
 returns : tie.Need-returns Inv-loop μ-loop
 returns c =
@@ -137,7 +140,7 @@ returns c =
       (
         going .held,
         drawn-all S (accOf (a .ed)) s (now (a .events)) (a .at) (at-loop .loop .row) (at-loop .loop .i) (length (now (a .row)))
-            (omega (arith, first .pre .1, all)) (going .left),
+            (omega (arith, first .pre .1, all)) (going .written .left),
       ),
     )
 
