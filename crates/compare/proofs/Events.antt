@@ -18,7 +18,7 @@ use Rattle.word.specs.LittleEndian.{toBytes, ofBytes, numberAt}
 use Rattle.word.specs.TwosComplement.{eqZ}
 use Rattle.word.proofs.Part.{part-part, length-part, bytes-part, bytes-take}
 use Rattle.word.proofs.LittleEndian.{numberAt-lt, numberAt-add, toBytes-ofBytes}
-use Rattle.word.proofs.Branches.{eqZ-true, eqZ-refl}
+use Rattle.word.proofs.Branches.{agree, eqZ-true, eqZ-refl}
 use Rattle.snapshot.specs.declared.event.Event.{Event}
 use Rattle.snapshot.specs.Widths.{eventSize}
 use Rattle.snapshot.specs.EventBytes.{eventOf, reservedZero, legalEvent}
@@ -98,11 +98,6 @@ module _ (e : List ℕ) (w : Whole e) (legal : legalEvent e ≡ true) where
 
   value-fits : Fits w32 (numberAt e 4 4)
   value-fits = record { fits = numberAt-lt e 4 4 (w .bytes) (omega (arith, w .long)) }
-
-agree : (a b : Bool) → (a ≡ true → b ≡ true) → (b ≡ true → a ≡ true) → a ≡ b
-agree true b f g = sym (f refl)
-agree false true f g = g refl
-agree false false f g = refl
 
 module _ (d e : List ℕ) (v : Whole d) (w : Whole e) (p : legalEvent d ≡ true) (q : legalEvent e ≡ true) where
   same-front : eventOf d ≡ eventOf e → numberAt d 0 8 ≡ numberAt e 0 8

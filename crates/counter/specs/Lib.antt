@@ -5,6 +5,7 @@ pub mod Shown
 pub mod Loading
 pub mod Events
 pub mod Sample
+pub mod Idle
 pub mod Interrupts
 pub mod WellFormed
 pub mod Bench

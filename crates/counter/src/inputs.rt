@@ -2,10 +2,10 @@
 use super::state::Count;
 use word::bits;
 ghost use mathlib.Core.Path.{_≡_};
-ghost use mathlib.Core.Bool.{true, false};
-ghost use Prim.Native.Nat.{ℕ, _<_};
+ghost use Prim.Native.Nat.{_<_};
 ghost use Rattle.word.specs.Masks.{bit};
 ghost use Rattle.counter.specs.Sample.{rises, falls, hasReset, direction, aloneUp, byLevel, byInput, byPhase};
+ghost use Rattle.counter.specs.Idle.{noneRises};
 
 // Whether input n is on.
 pub fn is_on(levels: u8, n: u32) -> bool
@@ -33,7 +33,7 @@ fn falls(old: u8, new: u8, n: u32) -> bool
 
 // Whether no input goes from off to on, told by one test of all levels.
 pub fn none_rises(old: u8, new: u8) -> bool
-    ensures { λ r. ⌜ (r ≡ true → (n : ℕ) → n < 8 → rises old new n ≡ false) ⌝ }
+    ensures { λ r. ⌜ r ≡ noneRises old new 8 ⌝ }
 {
     new & !old == 0
 }

@@ -9,9 +9,9 @@ use super::state::Counter;
 use super::state::Sampled;
 use word::bits;
 ghost use mathlib.Core.Path.{_≡_};
-ghost use mathlib.Core.Bool.{true};
 ghost use lib.IntN.{pos};
 ghost use Rattle.counter.specs.Sample.{sampledAs, unmoved, countedUp, countedDown, countedBy, resets, mayCount, count, sampled, sample};
+ghost use Rattle.counter.specs.Idle.{idle};
 
 fn unmoved(c: Counter) -> Sampled
     ensures { λ r. ⌜ r ≡ unmoved c ⌝ }
@@ -100,9 +100,9 @@ fn reset(flags: u32) -> Sampled
     }
 }
 
-// Whether nothing comes of the sample but its levels: no input rises, in a mode that goes by rises alone. It need not find every such sample.
+// Whether it is told at once that nothing comes of the sample but its levels: no input rises, in a mode that goes by rises alone.
 pub fn is_idle(c: Counter, new: u8) -> bool
-    ensures { λ r. ⌜ (r ≡ true → sampled new c ≡ unmoved c) ⌝ }
+    ensures { λ r. ⌜ r ≡ idle new c ⌝ }
 {
     inputs::none_rises(c.levels, new) & (rules::mode(c) < 6)
 }

@@ -28,6 +28,12 @@ cond-cases P false x y p q = q refl
 pub answer-is : {A : Type 0} {r b v : A} → r ≡ b → r ≡ v → b ≡ v
 answer-is e t = sym e ∙ t
 
+-- two tests that hold together
+pub agree : (a b : Bool) → (a ≡ true → b ≡ true) → (b ≡ true → a ≡ true) → a ≡ b
+agree true b p q = sym (p refl)
+agree false true p q = q refl
+agree false false p q = refl
+
 -- ---- equality of signed numbers
 
 pub eqZ-refl : (x : ℤ) → eqZ x x ≡ true

@@ -1,19 +1,22 @@
 -- `snapshot::split::sample_over` meets its contract: where the sample makes nothing, its levels are all that is stored; where it raises no cause, what is
 -- stored is the sample; and where it raises one, the cause is raised on that.
 use borrow.Author.Needs.{needs}
-use mathlib.Core.Path.{_≡_, refl, sym, ap, _∙_, subst}
+use mathlib.Core.Path.{_≡_, refl, sym, ap, _∙_}
 use mathlib.Core.List.{[], _∷_}
 use lib.IntN.{ℤ}
 use denote.Ref.{now}
 use mir.Syntax.{w32}
 use Rattle.word.specs.TwosComplement.{unsigned}
 use Rattle.word.specs.Layouts.{pack}
+use Rattle.word.proofs.Branches.{answer-is}
 use Rattle.word.proofs.TwosComplement.{signed-unsigned}
 use Rattle.counter.specs.declared.state.Counter.{Counter}
-use Rattle.counter.specs.Parts.{withAcc, withFlags, withLevels}
+use Rattle.counter.specs.Parts.{withAcc, withFlags, withLevels, withDesk}
 use Rattle.counter.specs.Desk.{empty}
 use Rattle.counter.specs.Interrupts.{raise}
 use Rattle.counter.specs.Sample.{unmoved, sampled}
+use Rattle.counter.specs.Idle.{idle}
+use Rattle.counter.proofs.Idle.{sampled-idle}
 use Rattle.counter.proofs.Samples.{sampled-desk}
 use Rattle.counter.proofs.Typing.{sampled-typed}
 use Rattle.snapshot.specs.Widths.{movingLayout}
@@ -42,7 +45,8 @@ idle-of : (c : tie.Then1) → unmoved (held (c .before)) ≡ sampled (entry (c .
 idle-of c =
     let tested = c .before in
     let new = entry tested .args .new in
-    sym (subst (λ (d : Counter). sampled new d ≡ unmoved d) (tested .before .read-without-desk .ensures) (tested .is-idle .ensures (c .if1 .taken)))
+    let read = tested .before .read-without-desk .ensures in
+    sym (sampled-idle new (withDesk empty (held tested)) (ap (idle new) (sym read) ∙ answer-is (tested .is-idle .ensures) (c .if1 .taken)))
     ∙ sampled-desk new empty (held tested)
 
 read-without-desk-requires : tie.Need-read-without-desk-requires
