@@ -1,6 +1,6 @@
 -- `counter::inputs::none_rises` meets its contract: bit n of what is tested is 1 where input n rises, and a word is 0 where all its bits are.
 use mathlib.Core.Path.{_≡_, sym, ap, _∙_}
-use mathlib.Core.Bool.{Bool, true, false, _&&_, and-comm}
+use mathlib.Core.Bool.{Bool, false, _&&_, and-comm}
 use Prim.Native.Nat.{ℕ, _-_, _^_, _<_}
 use native.Mathlib.Nat.{lt-of-le-of-lt}
 use native.Mathlib.Omega.{arith}
