@@ -1,7 +1,6 @@
 // The unread rest of the longer of two traces.
 use refusal::Trace;
 ghost use mathlib.Core.Path.{_≡_};
-ghost use Prim.Native.Nat.{min};
 ghost use denote.Ref.{ptr};
 ghost use Rattle.compare.specs.Rest.{longer, choose, past, restTrace, restPlace, restOf};
 
@@ -14,13 +13,6 @@ pub fn longer(first: usize, second: usize) -> Trace
     } else {
         Trace::First
     }
-}
-
-// The shorter of two lengths.
-pub fn shorter(first: usize, second: usize) -> usize
-    ensures { λ r. ⌜ r ≡ min first second ⌝ }
-{
-    if first < second { first } else { second }
 }
 
 // The bytes of the longer trace past the shorter's length, as a part of that trace; of two of one length, the empty end of the first.

@@ -1,9 +1,16 @@
-// Parts of a slice: compared with other bytes, and copied over.
+// Parts of slices: compared, and copied over.
 ghost use mathlib.Core.Path.{_≡_};
-ghost use Prim.Native.Nat.{_+_, _≤_};
+ghost use Prim.Native.Nat.{_+_, _≤_, min};
 ghost use lib.ListN.{length};
 ghost use Rattle.word.specs.Part.{put};
 ghost use Rattle.word.specs.Same.{sameBytes};
+
+// The shorter of two lengths.
+pub fn shorter(first: usize, second: usize) -> usize
+    ensures { λ r. ⌜ r ≡ min first second ⌝ }
+{
+    if first < second { first } else { second }
+}
 
 // Whether a and b hold the same bytes. It looks at each, so that the compiler compares many at once.
 pub fn same(a: &[u8], b: &[u8]) -> bool
