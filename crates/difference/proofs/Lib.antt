@@ -1,0 +1,2 @@
+-- Laws of the first difference, and the proofs of the contracts.
+pub mod Places

@@ -1,0 +1,2 @@
+-- What the contracts of `difference` cite.
+pub mod FirstDifference
