@@ -16,7 +16,7 @@
  * What is proved of each call takes this from the caller, and nothing more:
  *   - each pointer is valid for its length (or for what the prototype names) until the call returns,
  *   - no pointer is null, not even with length 0,
- *   - no buffer that a call may write overlaps another one lent to it; two traces, which are only read, may overlap.
+ *   - no buffer that a call may write overlaps another one lent to it; two that are only read may overlap.
  * What is in the buffers, and how long they are, is free: a call answers for all of it.
  */
 #ifndef HSC_H
@@ -29,8 +29,8 @@
  * The version of this header: in words, and as one number, major * 10000 + minor * 100 + patch. A program compares the
  * number with hsc_version() at its start, to see that header and archive belong together.
  */
-#define HSC_VERSION "0.3.0"
-#define HSC_VERSION_NUMBER 300
+#define HSC_VERSION "0.4.0"
+#define HSC_VERSION_NUMBER 400
 
 #define HSC_HEADER_SIZE 24
 #define HSC_EVENT_SIZE 12
@@ -271,6 +271,13 @@ uint64_t hsc_compare(const uint8_t *first, size_t first_len, const uint8_t *seco
  * Nothing is refused: any lengths will do.
  */
 uint32_t hsc_rest(const uint8_t *first, size_t first_len, const uint8_t *second, size_t second_len, uint64_t part[2]);
+
+/*
+ * The first place where two parts of bytes differ, counted in bytes from their begin; the shorter's length exactly if
+ * there is none within it. Comparing leaves off there, and what stands behind it takes no time. Nothing is refused:
+ * any bytes of any lengths will do. Mending compares snapshots by this call.
+ */
+uint64_t hsc_first_difference(const uint8_t *first, size_t first_len, const uint8_t *second, size_t second_len);
 
 #ifdef __cplusplus
 }
