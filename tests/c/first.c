@@ -1,5 +1,5 @@
 /* Calls the library as the depot's program does: a fresh snapshot is stepped and read back, an image is replayed and mended,
- * two traces are compared, events are drawn, and refusals are met.
+ * two traces are compared, events are drawn, two tables are told apart by their bytes, and refusals are met.
  * One line for each check; the first that fails ends the run with status 1.
  *
  *   rt staticlib hsc
@@ -217,7 +217,7 @@ static void images(void) {
     check("and the image and the span are as they were", memcmp(image, expected, IMAGE) == 0 && span[0] == 1 && span[1] == 1);
 }
 
-/* A trace that is lent to be compared, for its rest or to be drawn. */
+/* A trace that is lent to be compared, for its rest or to be drawn, or another part of bytes. */
 struct trace {
     const uint8_t *bytes;
     size_t len;
@@ -372,6 +372,51 @@ static void drawings(void) {
     check_undrawn("drawing: 9 goes before 5 and 6", 9, 0, bad, 68, third, 3);
 }
 
+/* The first place where they differ, in either order. */
+static void check_difference(const char *what, struct trace first, struct trace second, uint64_t place) {
+    check(what, hsc_first_difference(first.bytes, first.len, second.bytes, second.len) == place &&
+                    hsc_first_difference(second.bytes, second.len, first.bytes, first.len) == place);
+}
+
+/* The table of an image. */
+static struct trace table_of(const uint8_t image[IMAGE]) {
+    return (struct trace){image + TABLE, IMAGE - TABLE};
+}
+
+static void differences(void) {
+    uint8_t truck[IMAGE], office[IMAGE];
+    uint32_t span[2] = {KEPT, KEPT};
+    stepped(truck, 7);
+    stepped(office, 7);
+    const struct trace one = table_of(truck), other = table_of(office);
+    const struct trace snapshot = {other.bytes, HSC_SNAPSHOT_SIZE}, none = {other.bytes, 0};
+
+    check_difference("two tables that differ nowhere give their length", one, other, IMAGE - TABLE);
+    check_difference("so does a table with itself", one, one, IMAGE - TABLE);
+    check_difference("a snapshot and a table that begins with it give the snapshot's length", snapshot, one, HSC_SNAPSHOT_SIZE);
+    check_difference("an empty part differs nowhere", none, one, 0);
+    check_difference("so do two", none, none, 0);
+
+    office[IMAGE - 1] = 1;
+    check_difference("a difference in the last byte is found", one, other, IMAGE - TABLE - 1);
+    stepped(office, 9);
+    check_difference("the first snapshot that differs does so in ACC", one, other, HSC_SNAPSHOT_SIZE + 52);
+    office[TABLE] ^= 0x80;
+    check_difference("a difference in the first byte goes before it", one, other, 0);
+
+    const uint8_t bytes[] = {1, 1, 1, 2, 1};
+    const struct trace all = {bytes, sizeof bytes}, behind = {bytes + 1, sizeof bytes - 1};
+    check_difference("parts that overlap are compared", all, behind, 2);
+
+    stepped(office, 7);
+    for (size_t j = 1; j < SNAPSHOTS; j++) {
+        office[TABLE + (j + 1) * HSC_SNAPSHOT_SIZE - 1] = 1;
+    }
+    check("mending a table of which each last byte differs is done", hsc_mend(office, IMAGE, 0, truck, 0, span) == 0);
+    check("and runs to its end", span[0] == 1 && span[1] == SNAPSHOTS);
+    check_difference("and leaves no difference", one, other, IMAGE - TABLE);
+}
+
 static void version(void) {
     check("header and archive are of one version", hsc_version() == HSC_VERSION_NUMBER);
 }
@@ -386,5 +431,6 @@ int main(void) {
     longest();
     rests();
     drawings();
+    differences();
     return 0;
 }

@@ -1,4 +1,4 @@
-/* The nine calls through the header, as C and as C++: each done and refused, with guard bytes behind what is lent. */
+/* The ten calls through the header, as C and as C++: each done and refused, with guard bytes behind what is lent. */
 #include "hsc.h"
 
 #include <stdio.h>
@@ -137,6 +137,18 @@ static void check_traces(void)
     expect(part[0] == 24 && part[1] == 0, "its rest is the empty end");
 }
 
+static void check_difference(void)
+{
+    const uint8_t first[] = {1, 2, 3, 4};
+    const uint8_t second[] = {1, 2, 0, 0, 5};
+
+    expect(hsc_first_difference(first, sizeof first, second, sizeof second) == 2, "the first difference is found");
+    expect(hsc_first_difference(first, 2, second, sizeof second) == 2, "without one it is the first's length");
+    expect(hsc_first_difference(first, sizeof first, second, 1) == 1, "or the second's");
+    expect(hsc_first_difference(first, sizeof first, first, sizeof first) == 4, "a part differs nowhere from itself");
+    expect(hsc_first_difference(first, 0, second, 0) == 0, "nor do two empty ones");
+}
+
 /* The operand is the path of the image of two events. */
 int main(int count, char **words)
 {
@@ -154,5 +166,6 @@ int main(int count, char **words)
     check_draw(image + HSC_HEADER_SIZE + 2 * HSC_EVENT_SIZE);
     check_image(image);
     check_traces();
+    check_difference();
     return failures == 0 ? 0 : 1;
 }

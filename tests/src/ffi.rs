@@ -39,12 +39,14 @@ extern "C" {
         row: *mut i32,
         row_len: usize,
     ) -> u64;
+    fn hsc_first_difference(first: *const u8, first_len: usize, second: *const u8, second_len: usize) -> u64;
 }
 
 pub struct Archive;
 
 // SAFETY of every call: each pointer comes from a slice, an array or a number, of the length
-// passed or fixed by the header, which lives through the call, and no two of them overlap.
+// passed or fixed by the header, which lives through the call, and none that may be written to
+// overlaps another.
 impl Subject for Archive {
     fn event_check(&self, event: &[u8]) -> u32 {
         unsafe { hsc_event_check(event.as_ptr(), event.len()) }
@@ -97,5 +99,9 @@ impl Subject for Archive {
                 row.len(),
             )
         }
+    }
+
+    fn first_difference(&self, first: &[u8], second: &[u8]) -> u64 {
+        unsafe { hsc_first_difference(first.as_ptr(), first.len(), second.as_ptr(), second.len()) }
     }
 }

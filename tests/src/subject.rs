@@ -1,4 +1,4 @@
-//! The eight calls, for the model and for whatever is run against it.
+//! The nine calls, for the model and for whatever is run against it.
 
 use crate::model;
 
@@ -11,6 +11,7 @@ pub trait Subject {
     fn compare(&self, first: &[u8], second: &[u8], row: &mut [u32], count: &mut u32) -> u64;
     fn rest(&self, first: &[u8], second: &[u8], part: &mut [u64; 2]) -> u32;
     fn draw(&self, snapshot: &mut [u8], events: &[u8], row: &mut [i32]) -> u64;
+    fn first_difference(&self, first: &[u8], second: &[u8]) -> u64;
 }
 
 pub struct Model;
@@ -46,6 +47,10 @@ impl Subject for Model {
 
     fn draw(&self, snapshot: &mut [u8], events: &[u8], row: &mut [i32]) -> u64 {
         model::draw(snapshot, events, row)
+    }
+
+    fn first_difference(&self, first: &[u8], second: &[u8]) -> u64 {
+        model::first_difference(first, second)
     }
 }
 

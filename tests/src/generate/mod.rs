@@ -4,6 +4,7 @@ pub mod drawing;
 pub mod event;
 pub mod image;
 pub mod pair;
+pub mod parts;
 pub mod patch;
 mod rng;
 pub mod state;

@@ -1,6 +1,7 @@
 //! One call with its inputs, and all that can be seen of it afterwards.
 
 use std::fmt;
+use std::ops::Range;
 
 use crate::model::Refusal;
 use crate::subject::Subject;
@@ -15,10 +16,12 @@ pub enum Call {
     Compare,
     Rest,
     Draw,
+    FirstDifference,
 }
 
-/// A call and what it is lent: `buffer` is the snapshot, image or first trace, `input` the
-/// event or events, patch or second trace, `row` the count of the row's numbers.
+/// A call and what it is lent: `buffer` is the snapshot, image, first trace or first part, `input`
+/// the event or events, patch, second trace or second part, `row` the count of the row's numbers.
+/// Two parts that are `shared` both lie in the buffer.
 #[derive(Debug)]
 pub struct Case {
     pub call: Call,
@@ -26,6 +29,7 @@ pub struct Case {
     pub first: u64,
     pub input: Vec<u8>,
     pub row: usize,
+    pub shared: Option<[Range<usize>; 2]>,
 }
 
 /// Bytes, or numbers of the row, on each side of a lent buffer that no call may touch: more than
@@ -33,7 +37,7 @@ pub struct Case {
 const GUARD: usize = 80;
 
 /// What a guard byte and a result hold before the call.
-const PAINT: u8 = 0xa5;
+pub const PAINT: u8 = 0xa5;
 const PAINTED_NUMBER: u32 = u32::from_le_bytes([PAINT; 4]);
 const PAINTED_SIGNED: i32 = i32::from_le_bytes([PAINT; 4]);
 
@@ -130,7 +134,8 @@ impl Answer {
         *self == want
     }
 
-    /// The refusal's number, 0 if there was none; for the event check and the rest the answer.
+    /// The refusal's number, 0 if there was none; for the event check and the rest the answer. A
+    /// first difference is the whole status.
     pub fn number(&self) -> u32 {
         (self.status as u16).into()
     }
@@ -212,8 +217,28 @@ impl Case {
         Case { row, ..Case::lend(Call::Draw, snapshot, 0, events) }
     }
 
+    pub fn first_difference(first: &[u8], second: &[u8]) -> Case {
+        Case::lend(Call::FirstDifference, first, 0, second)
+    }
+
+    pub fn first_difference_within(memory: &[u8], parts: [Range<usize>; 2]) -> Case {
+        Case { shared: Some(parts), ..Case::lend(Call::FirstDifference, memory, 0, &[]) }
+    }
+
     fn lend(call: Call, buffer: &[u8], first: u64, input: &[u8]) -> Case {
-        Case { call, buffer: buffer.to_vec(), first, input: input.to_vec(), row: 0 }
+        Case { call, buffer: buffer.to_vec(), first, input: input.to_vec(), row: 0, shared: None }
+    }
+
+    /// The two parts of bytes that the case compares.
+    pub fn parts(&self) -> [&[u8]; 2] {
+        self.parts_of(&self.buffer, &self.input)
+    }
+
+    fn parts_of<'a>(&self, buffer: &'a [u8], input: &'a [u8]) -> [&'a [u8]; 2] {
+        match self.shared.clone() {
+            Some(parts) => parts.map(|part| &buffer[part]),
+            None => [buffer, input],
+        }
     }
 
     /// Makes the call on guarded copies of the inputs.
@@ -233,6 +258,10 @@ impl Case {
             Call::Compare => subject.compare(buffer, input, row, &mut results.count),
             Call::Rest => subject.rest(buffer, input, &mut results.part).into(),
             Call::Draw => subject.draw(buffer, input, curve),
+            Call::FirstDifference => {
+                let [first, second] = self.parts_of(buffer, input);
+                subject.first_difference(first, second)
+            }
         };
         // The optimizer may not take the guards for unchanged.
         std::hint::black_box(answer)
@@ -270,15 +299,21 @@ impl Case {
         answer
     }
 
+    /// Answers this place.
+    pub fn differs_at(&self, place: usize) -> Answer {
+        Answer::unchanged(self, place as u64)
+    }
+
     /// Whether the subject's answer is this one.
     pub fn expect(&self, subject: &dyn Subject, want: &Answer) -> Result<(), String> {
         let answer = self.answer(subject);
         if answer == *want {
             return Ok(());
         }
-        let Case { call, buffer, first, input, row } = self;
+        let Case { call, buffer, first, input, row, shared } = self;
+        let shared = shared.as_ref().map(|parts| format!(", parts {parts:?}")).unwrap_or_default();
         Err(format!(
-            "{call:?} of {} bytes, first {first}, {} bytes of input, row {row}: {}\nbuffer {}\ninput {}",
+            "{call:?} of {} bytes, first {first}, {} bytes of input, row {row}{shared}: {}\nbuffer {}\ninput {}",
             buffer.len(),
             input.len(),
             answer.difference(want),

@@ -8,10 +8,10 @@ pub mod tally;
 
 use std::ops::Range;
 
-use case::{Answer, Call, Case};
+use case::{Answer, Call, Case, PAINT};
 use tally::Tally;
 
-use crate::generate::{change_length, drawing, event, image, pair, patch, state, Rng};
+use crate::generate::{change_length, drawing, event, image, pair, parts, patch, state, Rng};
 use crate::model::event::{row, Event};
 use crate::model::{counter::Counter, snapshot};
 use crate::subject::{Model, Subject};
@@ -42,7 +42,7 @@ fn run_each(
 }
 
 fn any_call(subject: &dyn Subject, rng: &mut Rng, tally: &mut Tally) -> Result<(), String> {
-    match rng.below(24) {
+    match rng.below(26) {
         0 => check_event(subject, rng, tally),
         1 => read(subject, rng, tally),
         2..=6 => step(subject, rng, tally),
@@ -51,14 +51,16 @@ fn any_call(subject: &dyn Subject, rng: &mut Rng, tally: &mut Tally) -> Result<(
         14 | 15 => demand_3(subject, rng, tally),
         16..=18 => compare_nights(subject, rng, tally),
         19 => rest(subject, rng, tally),
-        _ => draw(subject, rng, tally),
+        20..=23 => draw(subject, rng, tally),
+        _ => first_difference(subject, rng, tally),
     }
 }
 
 /// Compares the subject's answer with the model's, which must leave all as it was if it refuses.
 fn compare(subject: &dyn Subject, case: &Case, tally: &mut Tally) -> Result<Answer, String> {
     let want = case.answer(&Model);
-    let refused = !matches!(case.call, Call::EventCheck | Call::Rest) && want.status != 0;
+    let refuses = !matches!(case.call, Call::EventCheck | Call::Rest | Call::FirstDifference);
+    let refused = refuses && want.status != 0;
     if refused && want != Answer::unchanged(case, want.status) {
         return Err(format!("the model refuses and writes: {case:?}"));
     }
@@ -159,5 +161,18 @@ fn draw(subject: &dyn Subject, rng: &mut Rng, tally: &mut Tally) -> Result<(), S
     let case = Case::draw(&snapshot, &events, drawing::row_length(rng, &events));
     let answer = compare(subject, &case, tally)?;
     tally.drawn(&case, &answer);
+    Ok(())
+}
+
+fn first_difference(subject: &dyn Subject, rng: &mut Rng, tally: &mut Tally) -> Result<(), String> {
+    let case = if rng.once_in(4) {
+        let (memory, parts) = parts::shared(rng, PAINT);
+        Case::first_difference_within(&memory, parts)
+    } else {
+        let [first, second] = parts::apart(rng, PAINT);
+        Case::first_difference(&first, &second)
+    };
+    let answer = compare(subject, &case, tally)?;
+    tally.difference(&case, &answer);
     Ok(())
 }

@@ -5,6 +5,7 @@ use std::cell::Cell;
 use std::ops::Range;
 
 use crate::generate::image::Parts;
+use crate::generate::parts::BLOCK;
 use crate::model::counter::{Counter, OUTPUTS};
 use crate::model::{event, flags, snapshot, Refusal};
 use crate::subject::{Model, Subject};
@@ -64,10 +65,22 @@ pub enum Slip {
     LongRowTaken,
     /// Takes a row with fewer numbers than events, and draws what it holds.
     ShortRowTaken,
+    /// Gives the place of the last difference.
+    LastDifference,
+    /// Gives the place of the block of bytes that has the first difference.
+    BlockPlace,
+    /// Gives the longer's length where there is no difference.
+    LongerLength,
+    /// Compares the first block alone.
+    FirstBlockAlone,
+    /// Compares whole blocks alone.
+    WholeBlocksAlone,
+    /// Looks past the shorter, as if zeros stood there.
+    LooksPast,
 }
 
 impl Slip {
-    pub fn all() -> [Slip; 27] {
+    pub fn all() -> [Slip; 33] {
         [
             Slip::StepRefusesAll,
             Slip::StepIsFixed,
@@ -96,6 +109,12 @@ impl Slip {
             Slip::SnapshotUnasked,
             Slip::LongRowTaken,
             Slip::ShortRowTaken,
+            Slip::LastDifference,
+            Slip::BlockPlace,
+            Slip::LongerLength,
+            Slip::FirstBlockAlone,
+            Slip::WholeBlocksAlone,
+            Slip::LooksPast,
         ]
     }
 }
@@ -255,5 +274,23 @@ impl Subject for Slip {
             _ => {}
         }
         status
+    }
+
+    fn first_difference(&self, first: &[u8], second: &[u8]) -> u64 {
+        let place = Model.first_difference(first, second) as usize;
+        let (shorter, longer) = (first.len().min(second.len()), first.len().max(second.len()));
+        let wrong = match self {
+            Slip::LastDifference => (place..shorter).rfind(|&at| first[at] != second[at]).unwrap_or(place),
+            Slip::BlockPlace if place < shorter => place / BLOCK * BLOCK,
+            Slip::LongerLength if place == shorter => longer,
+            Slip::FirstBlockAlone if place >= BLOCK => shorter,
+            Slip::WholeBlocksAlone if place >= shorter / BLOCK * BLOCK => shorter,
+            Slip::LooksPast => {
+                let byte = |part: &[u8], at| part.get(at).copied().unwrap_or(0);
+                (place..longer).find(|&at| byte(first, at) != byte(second, at)).unwrap_or(longer)
+            }
+            _ => place,
+        };
+        wrong as u64
     }
 }

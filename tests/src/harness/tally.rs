@@ -7,6 +7,7 @@ use std::fmt;
 use super::case::{Answer, Call, Case};
 use crate::generate::image::Table;
 use crate::generate::pair;
+use crate::generate::parts::BLOCK;
 use crate::model::counter::Counter;
 use crate::model::event::{first_illegal, row, Event};
 use crate::model::trace::MAX_EVENTS;
@@ -18,7 +19,7 @@ pub struct Tally {
 }
 
 /// Each heading with the numbers that must be reached under it.
-const REQUIRED: [(&str, &[u32]); 42] = [
+const REQUIRED: [(&str, &[u32]); 49] = [
     (CHECK, &[0, 1, 9]),
     (STEP, &[0, 5, 6, 9]),
     (READ, &[0, 6, 9]),
@@ -61,12 +62,29 @@ const REQUIRED: [(&str, &[u32]); 42] = [
     (NEXT, &[0, 1]),
     (LEAPT, &[0, 2, 3, 4, WRITTEN]),
     (EXTREME, &[0, 1]),
+    (DIFFERENCE, &[0, 1, 2, 3]),
+    (BEHIND, &[0, 1, 2]),
+    (NO_DIFFERENCE, &[0, 1, 2]),
+    (EMPTY, &[1, 2, 3]),
+    (SHARED, &[0, 1, 2]),
+    (IN_BLOCK, IN_BLOCKS),
+    (BLOCK_END, IN_BLOCKS),
 ];
 
 const KINDS: &[u32] = &[0, 1, 2, 3, 4, 5, 6, 7, 8, 9];
 const CAUSES: &[u32] = &[1, 2, 3, 4];
 const TRACES: &[u32] = &[1, 2];
 const TABLES: &[u32] = &[0, 1, 2, 3, 4, 5];
+/// The places in a block of bytes.
+const IN_BLOCKS: &[u32] = &{
+    let mut places = [0; BLOCK];
+    let mut at = 1;
+    while at < BLOCK {
+        places[at] = at as u32;
+        at += 1;
+    }
+    places
+};
 const CHECK: &str = "event check: answer";
 const STEP: &str = "step: refusal";
 const READ: &str = "read: refusal";
@@ -115,6 +133,25 @@ const LEAPT: &str =
     "number drawn far from the one before: 0 reset, 2 high preset, 3 underflow, 4 overflow, 5 written";
 const WRITTEN: u32 = 5;
 const EXTREME: &str = "number drawn: 0 the least, 1 the most";
+const DIFFERENCE: &str =
+    "first difference: 0 at the first byte, 1 in between, 2 at the shorter's last, 3 at its only one";
+const BEHIND: &str = "first difference: behind it 0 no other, 1 another in the same block of 64, 2 past it";
+const NO_DIFFERENCE: &str = "first difference: none, 0 of equal lengths, 1 first shorter, 2 second shorter";
+const EMPTY: &str = "first difference of an empty part: 1 the first, 2 the second, 3 both";
+const SHARED: &str =
+    "first difference in one memory: 0 of a part and itself, 1 of parts that overlap, 2 apart";
+const IN_BLOCK: &str = "first difference: place modulo 64";
+const BLOCK_END: &str = "first difference: none, the shorter's length modulo 64";
+
+/// Whether a place is 0 the first of many, 1 in between, 2 the last of many, 3 the only one.
+fn end_or_between(place: usize, count: usize) -> u32 {
+    match (place, count - 1) {
+        (0, 0) => 3,
+        (0, _) => 0,
+        (place, last) if place < last => 1,
+        _ => 2,
+    }
+}
 
 impl Tally {
     fn add(&mut self, heading: &'static str, number: u32) {
@@ -124,6 +161,8 @@ impl Tally {
     /// Counts the outcome of a case.
     pub fn answer(&mut self, case: &Case, answer: &Answer) {
         let heading = match case.call {
+            // Each place is an answer of its own.
+            Call::FirstDifference => return,
             Call::EventCheck => CHECK,
             Call::Step => STEP,
             Call::Read => READ,
@@ -241,13 +280,7 @@ impl Tally {
 
     fn illegal_drawn(&mut self, case: &Case, place: usize) {
         let events = row(&case.input);
-        let which = match (place, events.len() - 1) {
-            (0, 0) => 3,
-            (0, _) => 0,
-            (place, last) if place < last => 1,
-            _ => 2,
-        };
-        self.add(DRAW_ILLEGAL, which);
+        self.add(DRAW_ILLEGAL, end_or_between(place, events.len()));
         if first_illegal(&events[place + 1..]).is_some() {
             self.add(DRAW_ILLEGAL, 4);
         }
@@ -276,6 +309,43 @@ impl Tally {
             if number == i32::MIN || number == i32::MAX {
                 self.add(EXTREME, (number > 0).into());
             }
+        }
+    }
+
+    /// Counts where two parts differed first, or that they did not, and how they were lent.
+    pub fn difference(&mut self, case: &Case, answer: &Answer) {
+        let [first, second] = case.parts();
+        let shorter = first.len().min(second.len());
+        let place = answer.status as usize;
+        if place < shorter {
+            self.add(DIFFERENCE, end_or_between(place, shorter));
+            self.add(IN_BLOCK, (place % BLOCK) as u32);
+            let next = (place + 1..shorter).find(|&at| first[at] != second[at]);
+            self.add(BEHIND, next.map_or(0, |at| if at / BLOCK == place / BLOCK { 1 } else { 2 }));
+        } else {
+            let lengths = match first.len().cmp(&second.len()) {
+                Equal => 0,
+                Less => 1,
+                Greater => 2,
+            };
+            self.add(NO_DIFFERENCE, lengths);
+            self.add(BLOCK_END, (shorter % BLOCK) as u32);
+        }
+        if shorter == 0 {
+            self.add(EMPTY, u32::from(first.is_empty()) + 2 * u32::from(second.is_empty()));
+        }
+        if let Some([first, second]) = &case.shared {
+            let overlap = first.start.max(second.start) < first.end.min(second.end);
+            self.add(
+                SHARED,
+                if first == second {
+                    0
+                } else if overlap {
+                    1
+                } else {
+                    2
+                },
+            );
         }
     }
 

@@ -1,9 +1,10 @@
-//! The model's eight calls, on slices as the C surface has them. A status holds the refusal's
+//! The model's nine calls, on slices as the C surface has them. A status holds the refusal's
 //! number in bits 0 to 15, the trace it speaks of in bits 16 to 31 and its place in bits 32 to
 //! 63; 0 is done. A refusal leaves every lent buffer as it was.
 
 mod compare;
 pub mod counter;
+mod difference;
 mod draw;
 pub mod event;
 pub mod flags;
@@ -115,4 +116,11 @@ pub fn rest(first: &[u8], second: &[u8], part: &mut [u64; 2]) -> u32 {
 /// snapshot after all of them over the lent one. Refusals 9, 5, 6.
 pub fn draw(snapshot: &mut [u8], events: &[u8], row: &mut [i32]) -> u64 {
     status(draw::draw(snapshot, events, row))
+}
+
+/// Answers the first place where two parts of bytes differ, the shorter's length if there is none
+/// within it. A call, as `rest` is.
+#[inline(never)]
+pub fn first_difference(first: &[u8], second: &[u8]) -> u64 {
+    difference::first_difference(first, second) as u64
 }
