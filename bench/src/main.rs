@@ -1,52 +1,22 @@
 //! The library and the model side by side on the same inputs, in one run: replay, mending,
-//! the image's check and single steps over a full night, the night drawn, and two nights compared.
-//! It asserts results, never times.
+//! the image's check and single steps over a full night, the night drawn, two nights compared, and
+//! the first difference of two parts of bytes, also beside memcmp. It asserts results, never times.
 
 mod night;
+mod parts;
+mod timing;
 
 use std::cell::Cell;
-use std::time::Instant;
+use std::env;
 
 use hsc_tests::generate::event::event;
 use hsc_tests::generate::image::Parts;
 use hsc_tests::model::counter::Counter;
-use hsc_tests::model::snapshot::encode;
+use hsc_tests::model::snapshot::{encode, SIZE};
 use hsc_tests::model::trace::MAX_EVENTS;
-use hsc_tests::subject::{on_each, Model, Subject, UNDER_TEST, UNDER_TEST_NAME};
+use hsc_tests::subject::{on_each, Model, Subject, UNDER_TEST_NAME};
 
-const ROUNDS: usize = 15;
-
-fn median(mut numbers: Vec<f64>) -> f64 {
-    numbers.sort_by(f64::total_cmp);
-    numbers[numbers.len() / 2]
-}
-
-/// Times the work on both sides, taking turns at going first, after one run of each that is not
-/// timed. The work's results must be equal.
-fn compare<R: PartialEq>(name: &str, mut work: impl FnMut(&dyn Subject) -> R) {
-    let sides: [&dyn Subject; 2] = [&UNDER_TEST, &Model];
-    assert!(work(sides[0]) == work(sides[1]), "{name}: the results differ");
-    let mut times = [Vec::new(), Vec::new()];
-    for round in 0..ROUNDS {
-        for side in [round % 2, 1 - round % 2] {
-            let begun = Instant::now();
-            work(sides[side]);
-            times[side].push(begun.elapsed().as_secs_f64());
-        }
-    }
-    let ratios = times[0].iter().zip(&times[1]).map(|(library, model)| library / model).collect();
-    let [library, model] = times.map(|side| {
-        let least = side.iter().copied().fold(f64::INFINITY, f64::min);
-        (1e3 * median(side), least)
-    });
-    println!(
-        "  {name:<30} {:9.3} ms {:9.3} ms {:7.2} {:7.2}",
-        library.0,
-        model.0,
-        median(ratios),
-        library.1 / model.1
-    );
-}
+use timing::{compare, in_turn, timed, ROUNDS, SIDES};
 
 fn images(spacing: usize) {
     let mut image = night::image(spacing);
@@ -59,28 +29,39 @@ fn images(spacing: usize) {
         last
     });
 
-    let mut mend = |name, first: usize, patch: &dyn Fn() -> Vec<u8>, stop: usize| {
-        compare(name, |subject| {
-            let mut span = [0; 2];
-            assert_eq!(subject.mend(&mut image, first as u64, &patch(), &mut span), 0);
-            assert_eq!(span[1] as usize, stop, "{name}: the stop");
-            span
+    let mut mend = |name, prepare: &dyn Fn(&mut [u8]), first: usize, patch: &dyn Fn() -> Vec<u8>, stop| {
+        in_turn(name, |side| {
+            prepare(&mut image);
+            let (patch, mut span) = (patch(), [0; 2]);
+            let (seconds, status) = timed(|| SIDES[side].mend(&mut image, first as u64, &patch, &mut span));
+            assert_eq!((status, span[1] as usize), (0, stop), "{name}: the stop");
+            (seconds, span)
         });
     };
+    let as_it_is = |_: &mut [u8]| {};
 
     // No event is run and nothing is written: header, events and one snapshot are checked.
-    mend("image check (empty mend at E)", parts.events, &Vec::new, parts.snapshots);
+    mend("image check (empty mend at E)", &as_it_is, parts.events, &Vec::new, parts.snapshots);
 
     let middle = parts.events / 2;
     let same = night::events()[middle..middle + 64].as_flattened().to_vec();
     let stop = (middle + 64).div_ceil(spacing);
-    mend("mend, stops at once", middle, &|| same.clone(), stop);
+    mend("mend, stops at once", &as_it_is, middle, &|| same.clone(), stop);
 
     // The staged LPO is written once in the night, in the place of a pulse, and never the same
     // value twice, so that no later snapshot agrees.
     let word = Cell::new(0);
     let other = || event(2, 6, word.replace((word.get() + 1) % 65536)).to_vec();
-    mend("mend, runs to the end", 20, &other, parts.snapshots);
+    mend("mend, runs to the end", &as_it_is, 20, &other, parts.snapshots);
+
+    // The last byte of each snapshot past the first, its second waiting cause, is none.
+    let bend = |image: &mut [u8]| {
+        (1..parts.snapshots).for_each(|index| image[parts.snapshot(index) + SIZE - 1] ^= 0x80);
+    };
+    mend("mend, each last byte differs", &bend, 0, &Vec::new, parts.snapshots);
+    let mut replayed = image.clone();
+    assert_eq!(Model.replay(&mut replayed, &mut [0; SIZE]), 0);
+    assert!(image == replayed, "the table is not true");
 }
 
 fn steps() {
@@ -151,15 +132,27 @@ fn nights() {
 }
 
 fn main() {
-    println!("library: {UNDER_TEST_NAME}; model: the model of the documents");
-    println!("columns: the library's and the model's median of {ROUNDS} rounds, then library/model twice:");
-    println!("the median of the rounds' ratios, and the ratio of the two least times");
+    if env::args().nth(1).is_some_and(|argument| argument == parts::MEMCMP_ALONE) {
+        return parts::beside_memcmp();
+    }
+    println!("library: {UNDER_TEST_NAME}; model: the model of the documents; memcmp: the C library's");
+    println!("columns: the library's and the other's median of {ROUNDS} rounds, then library/other twice:");
+    println!(
+        "the median of the rounds' ratios, and the ratio of the two least times; the other is the model"
+    );
+    println!("where none is named");
     println!("buffers are warm: both sides work on one image, and each ran once before the timing;");
-    println!("what the caches do not hold of it comes from memory on both sides");
+    println!("what the caches do not hold of it comes from memory on both sides; two parts of bytes each");
+    println!(
+        "begin at a multiple of 64; where each last byte differs, it is made to before each mend, untimed"
+    );
     for spacing in [1, 64, 4096] {
         images(spacing);
     }
     steps();
     curve();
     nights();
+    parts::last_byte();
+    parts::first_byte();
+    parts::beside_narrow_memcmp();
 }
