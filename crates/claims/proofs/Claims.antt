@@ -54,6 +54,7 @@ use Rattle.hsc.specs.Calls.{checkAnswer, stepAnswer, stepAfter, readAnswer, rea
 use Rattle.hsc.specs.Calls.{compareStatus, compareCount, restNumber, restPart, drawStatus}
 use Rattle.compare.specs.Comparing.{compareRow}
 use Rattle.draw.specs.Drawing.{drawSnapshot, drawRow}
+use Rattle.difference.specs.FirstDifference.{firstDifference}
 use Rattle.report.specs.Office.{officeLine}
 use Rattle.word.proofs as word
 use Rattle.refusal.proofs.Answers as refusals
@@ -142,6 +143,12 @@ pub hsc-draw : (κs : _) (snapshot snapshot′ events events′ : RefT (List ℕ
     × ((now snapshot′ ≡ drawSnapshot Base (now snapshot) (now events) (length (now row)))
     × (now row′ ≡ drawRow Base (now snapshot) (now events) (now row)))))
 hsc-draw κs snapshot snapshot′ events events′ row row′ r = (refl, refl)
+
+pub hsc-first-difference : (κs : _) (first first′ second second′ : RefT (List ℕ)) (r : ℕ)
+    → (hsc.differing.hsc_first_difference.Reads.Asked κs (first, (second, tt)) ≡ Unit)
+    × (hsc.differing.hsc_first_difference.Reads.Learnt κs (first, (second, tt)) r (first′, (second′, tt))
+    ≡ (r ≡ firstDifference (now first) (now second)))
+hsc-first-difference κs first first′ second second′ r = (refl, refl)
 
 -- an image is not refused exactly where its header is right, its length is that of its shape, its events are legal and replay may start
 pub verdict-valid : (image : List ℕ) → Bytes image → ValidTrace image ↔ (images.Headers.Headed image × any.Replayable (systemOf image) (shapeOf image) image)

@@ -2,3 +2,4 @@
 pub mod Claims
 pub mod Comparing
 pub mod Drawing
+pub mod Differing

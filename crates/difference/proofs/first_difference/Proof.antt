@@ -2,8 +2,8 @@
 -- reach it, one that differs has it, and so has what is left past the blocks, if only at its end. The measure is what is left.
 use borrow.Author.Needs.{needs}
 use borrow.Author.Tests.{not-true, not-false}
-use mathlib.Core.Path.{_≡_, sym, _∙_}
-use Prim.Native.Nat.{ℕ, _≤_, _-_, zero-le}
+use mathlib.Core.Path.{sym, _∙_}
+use Prim.Native.Nat.{_≤_, _-_, zero-le}
 use native.Mathlib.Omega.{arith}
 use Rattle.difference.specs.FirstDifference.{firstDifference}
 use Rattle.difference.proofs.Places.{difference-within, block-same, block-differs}

@@ -1,6 +1,5 @@
 -- `difference::scan` meets its contract. The invariant: the first difference is not passed. The measure is what is left up to the end.
-use mathlib.Core.Path.{_≡_}
-use Prim.Native.Nat.{ℕ, _≤_, _-_}
+use Prim.Native.Nat.{_≤_, _-_}
 use native.Mathlib.Omega.{arith}
 use Rattle.difference.specs.FirstDifference.{firstDifference}
 use Rattle.difference.proofs.Places.{next-same, here-differs}
