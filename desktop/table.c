@@ -5,19 +5,26 @@
 #include <stdlib.h>
 #include <string.h>
 
-/* Compares the image, which is replayed, with the table that it had. */
-static void compare(const struct image *image, const uint8_t *table, struct comparison *comparison)
+/* The first snapshot, from snapshot j on, that differs from the table's of this size; their number if none does. */
+static uint32_t next_difference(const struct image *image, uint32_t j, const uint8_t *table, size_t size)
 {
-    comparison->different = 0;
-    for (uint32_t j = image->snapshots; j-- > 0;) {
-        const uint8_t *stored = table + (size_t)j * HSC_SNAPSHOT_SIZE;
+    size_t at = (size_t)j * HSC_SNAPSHOT_SIZE;
 
-        if (memcmp(image_snapshot(image, j), stored, HSC_SNAPSHOT_SIZE) != 0) {
-            comparison->different++;
-            comparison->first = j;
-            memcpy(comparison->stored, stored, HSC_SNAPSHOT_SIZE);
-        }
-    }
+    at += hsc_first_difference(image_snapshot(image, 0) + at, size - at, table + at, size - at);
+    return (uint32_t)(at / HSC_SNAPSHOT_SIZE);
+}
+
+/* Compares the image, which is replayed, with the table of this size that it had. */
+static void compare(const struct image *image, const uint8_t *table, size_t size, struct comparison *comparison)
+{
+    uint32_t j = next_difference(image, 0, table, size);
+
+    comparison->different = 0;
+    comparison->first = j;
+    if (j < image->snapshots)
+        memcpy(comparison->stored, table + (size_t)j * HSC_SNAPSHOT_SIZE, HSC_SNAPSHOT_SIZE);
+    for (; j < image->snapshots; j = next_difference(image, j + 1, table, size))
+        comparison->different++;
 }
 
 enum outcome table_replay(const struct image *image, struct comparison *comparison)
@@ -31,7 +38,7 @@ enum outcome table_replay(const struct image *image, struct comparison *comparis
     memcpy(table, image_snapshot(image, 0), size);
     status = hsc_replay(image->bytes, image->size, comparison->last);
     if (status == HSC_DONE)
-        compare(image, table, comparison);
+        compare(image, table, size, comparison);
     free(table);
     return status == HSC_DONE ? DONE : tell_refusal(image->path, status);
 }

@@ -32,6 +32,16 @@ not true: snapshot 1 differs first, 2 of 3 differ
   flags: stored 00000000, replayed 00000780, different: LPM HPM UFM OFM
 END
 verdict 'the verdict is no message' [ ! -s err ]
+# The last bytes of one snapshot and the first of the next.
+cp two-events.trace beside.trace
+over beside.trace $((48 + 2 * 68 - 2)) -1
+try 3 check beside.trace
+prints << END
+not true: snapshot 1 differs first, 2 of 3 differ
+  first waiting: stored 255, replayed 0
+  second waiting: stored 255, replayed 0
+  the stored snapshot is not well formed
+END
 
 # differs PLACE TEXT: with 4 bytes of -1 from this place of snapshot 1, these fields differ.
 differs() {
