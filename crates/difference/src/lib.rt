@@ -9,8 +9,9 @@ ghost use Rattle.word.specs.Part.{part};
 ghost use Rattle.word.specs.Same.{sameBytes};
 ghost use Rattle.difference.specs.FirstDifference.{firstDifference, blockSize};
 
-// The bytes of a block: four of the registers that every x86-64 machine has, and a line of its cache.
-pub const BLOCK_SIZE: usize = 64;
+// The bytes of a block: a line of the cache, by four of the registers that every x86-64 machine has. It is the widest that a snapshot has
+// whole, and the narrowest that the compiler compares within mending's own loop (decision 62).
+const BLOCK_SIZE: usize = 64;
 
 // Whether the blocks from byte at on are the same.
 fn same_block(first: &[u8], second: &[u8], at: usize) -> bool
