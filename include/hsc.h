@@ -273,9 +273,9 @@ uint64_t hsc_compare(const uint8_t *first, size_t first_len, const uint8_t *seco
 uint32_t hsc_rest(const uint8_t *first, size_t first_len, const uint8_t *second, size_t second_len, uint64_t part[2]);
 
 /*
- * The first place where two parts of bytes differ, counted in bytes from their begin; the shorter's length exactly if
- * there is none within it. Comparing leaves off there, and what stands behind it takes no time. Nothing is refused:
- * any bytes of any lengths will do. Mending compares snapshots by this call.
+ * The first place where two parts of bytes differ, counted from 0; the shorter's length exactly if there is none
+ * within it. Comparing leaves off there: what stands behind takes no time. It is a place and no status, and nothing is
+ * refused: any bytes of any lengths will do. Mending compares snapshots by the same function.
  */
 uint64_t hsc_first_difference(const uint8_t *first, size_t first_len, const uint8_t *second, size_t second_len);
 
