@@ -46,17 +46,30 @@ fn repeat(calls: usize, parts: [&[u8]; 2], call: impl Fn([&[u8]; 2]) -> u64) -> 
     (0..calls).map(|_| call(black_box(parts))).sum()
 }
 
+fn library([first, second]: [&[u8]; 2]) -> u64 {
+    SIDES[0].first_difference(first, second)
+}
+
 fn beside_model(name: &str, calls: usize, parts: [&[u8]; 2]) {
     compare(&format!("{name}, library/model"), |subject| {
         repeat(calls, parts, |[first, second]| subject.first_difference(first, second))
     });
 }
 
+/// The shortest parts beside the model, and the library on longer ones beside itself on these.
 pub fn first_byte() {
     println!("two parts of bytes, differing at the first byte: {CALLS} calls in a round");
-    for (name, length) in LENGTHS {
-        on_parts(length, 0, |parts| beside_model(name, CALLS, parts));
-    }
+    let [(least, length), longer @ ..] = LENGTHS;
+    on_parts(length, 0, |shortest| {
+        beside_model(least, CALLS, shortest);
+        for (name, length) in longer {
+            on_parts(length, 0, |parts| {
+                in_turn(&format!("{name}, library/at {least}"), |side| {
+                    timed(|| repeat(CALLS, [parts, shortest][side], library))
+                });
+            });
+        }
+    });
 }
 
 pub fn last_byte() {
@@ -70,7 +83,6 @@ pub fn last_byte() {
 /// The lines of memcmp, on parts that are equal but for the last byte.
 pub fn beside_memcmp() {
     for (name, length) in LENGTHS {
-        let library = |[first, second]: [&[u8]; 2]| SIDES[0].first_difference(first, second);
         // SAFETY: both parts have the length passed.
         let other = |[first, second]: [&[u8]; 2]| unsafe {
             let differ = black_box(memcmp(first.as_ptr().cast(), second.as_ptr().cast(), length)) != 0;

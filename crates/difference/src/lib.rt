@@ -10,7 +10,7 @@ ghost use Rattle.word.specs.Same.{sameBytes};
 ghost use Rattle.difference.specs.FirstDifference.{firstDifference, blockSize};
 
 // The bytes of a block: a line of the cache, by four of the registers that every x86-64 machine has. It is the widest that a snapshot has
-// whole, and the narrowest that the compiler compares within mending's own loop (decision 62).
+// whole, and the narrowest that the compiler compares within mending's own loop.
 const BLOCK_SIZE: usize = 64;
 
 // Whether the blocks from byte at on are the same.
