@@ -9,7 +9,3 @@ unfoldable pub firstDifference : List ℕ → List ℕ → ℕ
 firstDifference [] b = 0
 firstDifference (x ∷ a) [] = 0
 firstDifference (x ∷ a) (y ∷ b) = cond (eqb x y) (suc (firstDifference a b)) 0
-
--- the bytes of a block, which are compared at once
-abbrev pub blockSize : ℕ
-blockSize = 64

@@ -7,18 +7,18 @@ ghost use Prim.Native.Nat.{_+_, _≤_, min};
 ghost use lib.ListN.{length};
 ghost use Rattle.word.specs.Part.{part};
 ghost use Rattle.word.specs.Same.{sameBytes};
-ghost use Rattle.difference.specs.FirstDifference.{firstDifference, blockSize};
+ghost use Rattle.difference.specs.FirstDifference.{firstDifference};
 
 // The bytes of a block: a line of the cache, by four of the registers that every x86-64 machine has. It is the widest that a snapshot has
 // whole, and the narrowest that the compiler compares within mending's own loop.
 const BLOCK_SIZE: usize = 64;
 
-// Whether the blocks from byte at on are the same.
-fn same_block(first: &[u8], second: &[u8], at: usize) -> bool
-    requires { ⌜ (at + blockSize ≤ length (now first)) × (at + blockSize ≤ length (now second)) ⌝ }
-    ensures { λ r. ⌜ r ≡ sameBytes (part (now (first .entry)) at blockSize) (part (now (second .entry)) at blockSize) ⌝ }
+// Whether the blocks of this size from byte at on are the same.
+fn same_block(first: &[u8], second: &[u8], at: usize, size: usize) -> bool
+    requires { ⌜ (at + size ≤ length (now first)) × (at + size ≤ length (now second)) ⌝ }
+    ensures { λ r. ⌜ r ≡ sameBytes (part (now (first .entry)) at size) (part (now (second .entry)) at size) ⌝ }
 {
-    let end = at + BLOCK_SIZE;
+    let end = at + size;
     same(&first[at..end], &second[at..end])
 }
 
@@ -45,7 +45,7 @@ pub fn first_difference(first: &[u8], second: &[u8]) -> usize
     let n = shorter(first.len(), second.len());
     let mut i = 0;
     while BLOCK_SIZE <= n - i {
-        if !same_block(first, second, i) {
+        if !same_block(first, second, i, BLOCK_SIZE) {
             return scan(first, second, i, i + BLOCK_SIZE);
         }
         i += BLOCK_SIZE;

@@ -6,7 +6,6 @@ use native.Mathlib.Omega.{arith}
 use lib.ListN.{take, drop}
 use Rattle.word.specs.Part.{part}
 use Rattle.word.specs.Same.{sameBytes}
-use Rattle.difference.specs.FirstDifference.{blockSize}
 use Rattle.difference.proofs.same_block.Statement.{statement}
 use Rattle.difference.proofs.same_block.Tie as tie
 
@@ -38,7 +37,7 @@ returns : tie.Need-returns
 unfolding part
 returns c =
     let args = c .before .before .before .before .before .args in
-    let long : args .at + blockSize - args .at ≡ blockSize = omega arith in
+    let long : args .at + args .size - args .at ≡ args .size = omega arith in
     c .same .ensures
     ∙ ap (λ (n : ℕ). sameBytes (take n (drop (args .at) (args .first .now))) (take n (drop (args .at) (args .second .now)))) long
 
