@@ -1,6 +1,6 @@
 -- Laws of an idle sample: nothing comes of it but its levels.
-use mathlib.Core.Path.{_≡_, refl, ap, _∙_}
-use mathlib.Core.Bool.{Bool, true, false, cond, not, _&&_, and-false, and-eq-true-iff}
+use mathlib.Core.Path.{_≡_, refl, _∙_}
+use mathlib.Core.Bool.{Bool, true, false, cond, not, _&&_, and-false, and-eq-true-iff, false≢true}
 use Prim.Native.Nat.{ℕ, zero, suc, _<_}
 use native.Mathlib.Omega.{arith}
 use borrow.Author.Tests.{eqb-true, eqb-false, not-true}
@@ -12,6 +12,7 @@ use Rattle.counter.specs.Parts.{LOADED, flag, mode}
 use Rattle.counter.specs.Sample.{rises, hasReset, aloneUp, byLevel, byInput, direction}
 use Rattle.counter.specs.Sample.{unmoved, countedBy, resets, mayCount, count, sampled}
 use Rattle.counter.specs.Idle.{noneRises, byRises, idle}
+use Rattle.counter.proofs.Resets.{resets-other}
 
 -- ---- none rises exactly where each of them does not
 
@@ -55,9 +56,12 @@ module _ (new : ℕ) (c : Counter) (still : idle new c ≡ true) where
   none : (n : ℕ) → n < 8 → rises (c .levels) new n ≡ false
   none n = none-rises (c .levels) new 8 n (both .0)
 
+  other : mode c ≡ 7 → ⊥
+  unfolding byRises
+  other seven = false≢true (rw seven at both .1)
+
   resets-idle : resets new c ≡ false
-  unfolding resets
-  resets-idle = ap (λ (b : Bool). flag c LOADED && hasReset (mode c) && b) (none 2 (lit< tt)) ∙ and-false (flag c LOADED && hasReset (mode c))
+  resets-idle = resets-other new c other ∙ rw (none 2 (lit< tt)) (and-false (flag c LOADED && hasReset (mode c)))
 
   count-idle : count new c ≡ None
   unfolding count

@@ -15,6 +15,7 @@ pub mod Modes
 pub mod Queue
 pub mod Raising
 pub mod Ranges
+pub mod Resets
 pub mod Samples
 pub mod Steps
 pub mod Typing

@@ -1,5 +1,5 @@
 -- Document 01, "One input sample": edges, reset and hold, the mode's table, and what a count makes of ACC and the flags.
-use mathlib.Core.Bool.{Bool, cond, not, _&&_}
+use mathlib.Core.Bool.{Bool, cond, not, _&&_, _||_}
 use Prim.Native.Nat.{ℕ, _%_}
 use lib.Dec.{eqb, ltb}
 use lib.IntN.{ℤ, pos}
@@ -25,9 +25,17 @@ falls old new n = bit old n && not (bit new n)
 
 -- ---- the mode
 
--- modes 1, 3, 5, 7 have a reset (input 2) and a hold (input 3)
+-- modes 1, 3, 5, 7 have a reset and a hold (input 3)
 unfoldable pub hasReset : ℕ → Bool
 hasReset m = ltb m 8 && eqb (m % 2) 1
+
+-- 1, 3, 5: input 2 rises; 7: input 0 falls, 1 off, 2 on
+unfoldable pub resetBy : ℕ → ℕ → ℕ → Bool
+resetBy m old new = hasReset m && cond (eqb m 7) (falls old new 0 && not (bit new 1) && bit new 2) (rises old new 2)
+
+-- 1, 3, 5, 7: the hold is on; 7: input 2 is on as well
+unfoldable pub inhibited : ℕ → ℕ → Bool
+inhibited m new = hasReset m && (bit new 3 || eqb m 7 && bit new 2)
 
 -- 0, 1: input 0 rises
 unfoldable pub aloneUp : ℕ → ℕ → Count
@@ -88,13 +96,13 @@ countedBy Down c = countedDown c
 
 -- ---- the sample
 
--- a reset: settings are loaded, and input 2 rises in a mode that has a reset
+-- settings are loaded, and the inputs reset in their mode
 unfoldable pub resets : ℕ → Counter → Bool
-resets new c = flag c LOADED && hasReset (mode c) && rises (c .levels) new 2
+resets new c = flag c LOADED && resetBy (mode c) (c .levels) new
 
--- settings are loaded, CE is 1, and no hold (input 3) is on
+-- settings are loaded, CE is 1, and no input inhibits the count in their mode
 unfoldable pub mayCount : ℕ → Counter → Bool
-mayCount new c = flag c LOADED && flag c CE && not (hasReset (mode c) && bit new 3)
+mayCount new c = flag c LOADED && flag c CE && not (inhibited (mode c) new)
 
 -- the count that a sample makes; a reset makes none
 unfoldable pub count : ℕ → Counter → Count

@@ -4,11 +4,11 @@ use word::bits;
 ghost use mathlib.Core.Path.{_≡_};
 ghost use Prim.Native.Nat.{_<_};
 ghost use Rattle.word.specs.Masks.{bit};
-ghost use Rattle.counter.specs.Sample.{rises, falls, hasReset, direction, aloneUp, byLevel, byInput, byPhase};
+ghost use Rattle.counter.specs.Sample.{rises, falls, hasReset, resetBy, inhibited, direction, aloneUp, byLevel, byInput, byPhase};
 ghost use Rattle.counter.specs.Idle.{noneRises};
 
 // Whether input n is on.
-pub fn is_on(levels: u8, n: u32) -> bool
+fn is_on(levels: u8, n: u32) -> bool
     requires { ⌜ n < 32 ⌝ }
     ensures { λ r. ⌜ r ≡ bit levels n ⌝ }
 {
@@ -16,7 +16,7 @@ pub fn is_on(levels: u8, n: u32) -> bool
 }
 
 // Whether input n goes from off to on.
-pub fn rises(old: u8, new: u8, n: u32) -> bool
+fn rises(old: u8, new: u8, n: u32) -> bool
     requires { ⌜ n < 32 ⌝ }
     ensures { λ r. ⌜ r ≡ rises old new n ⌝ }
 {
@@ -39,10 +39,36 @@ pub fn none_rises(old: u8, new: u8) -> bool
 }
 
 // Modes 1, 3, 5 and 7 have a reset and a hold.
-pub fn has_reset(m: u8) -> bool
+fn has_reset(m: u8) -> bool
     ensures { λ r. ⌜ r ≡ hasReset m ⌝ }
 {
     (m < 8) & (m % 2 == 1)
+}
+
+// Whether the inputs reset in this mode: in mode 7 input 0 falls with 1 off and 2 on, in the others input 2 rises.
+pub fn reset_by(m: u8, old: u8, new: u8) -> bool
+    ensures { λ r. ⌜ r ≡ resetBy m old new ⌝ }
+{
+    if has_reset(m) {
+        if m == 7 {
+            falls(old, new, 0) & (!is_on(new, 1) & is_on(new, 2))
+        } else {
+            rises(old, new, 2)
+        }
+    } else {
+        false
+    }
+}
+
+// Whether an input inhibits the count in this mode: the hold, and in mode 7 input 2 as well.
+pub fn inhibited(m: u8, new: u8) -> bool
+    ensures { λ r. ⌜ r ≡ inhibited m new ⌝ }
+{
+    if has_reset(m) {
+        is_on(new, 3) | ((m == 7) & is_on(new, 2))
+    } else {
+        false
+    }
 }
 
 // Modes 0 and 1.

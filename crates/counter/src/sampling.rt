@@ -58,21 +58,19 @@ fn counted_by(way: Count, c: Counter) -> Sampled
     }
 }
 
-// Whether the sample resets: input 2 rises in a mode that has a reset.
+// Whether the sample resets: settings are loaded, and the inputs reset in their mode.
 fn resets(c: Counter, new: u8) -> bool
     ensures { λ r. ⌜ r ≡ resets new c ⌝ }
 {
-    bits::has(c.flags, flag::LOADED)
-        & (inputs::has_reset(rules::mode(c)) & inputs::rises(c.levels, new, 2))
+    bits::has(c.flags, flag::LOADED) & inputs::reset_by(rules::mode(c), c.levels, new)
 }
 
-// Whether the sample may count: CE is 1, and no hold is on.
+// Whether the sample may count: CE is 1, and no input inhibits it.
 fn may_count(c: Counter, new: u8) -> bool
     ensures { λ r. ⌜ r ≡ mayCount new c ⌝ }
 {
     bits::has(c.flags, flag::LOADED)
-        & (bits::has(c.flags, flag::CE)
-            & !(inputs::has_reset(rules::mode(c)) & inputs::is_on(new, 3)))
+        & (bits::has(c.flags, flag::CE) & !inputs::inhibited(rules::mode(c), new))
 }
 
 // The count that the sample makes.

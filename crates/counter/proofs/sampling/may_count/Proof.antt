@@ -14,18 +14,14 @@ has-requires-2 c κs = search needs
 mode-requires : tie.Need-mode-requires
 mode-requires c κs = search needs
 
-has-reset-requires : tie.Need-has-reset-requires
-has-reset-requires c κs = search needs
-
-is-on-requires : tie.Need-is-on-requires
-is-on-requires c κs = search needs
+inhibited-requires : tie.Need-inhibited-requires
+inhibited-requires c κs = search needs
 
 returns : tie.Need-returns
 unfolding mayCount
 returns c =
-    let held = c .before in
-    let tested = held .before .before in
-    simp (tested .before .has .ensures, tested .has2 .ensures, held .before .mode .ensures, held .has-reset .ensures, c .is-on .ensures, and-assoc)
+    let tested = c .before .before in
+    simp (tested .before .has .ensures, tested .has2 .ensures, c .before .mode .ensures, c .inhibited .ensures, and-assoc)
 
 pub may-count-spec : {M : Type 1} → statement M
-may-count-spec = tie.close (tie.spec has-requires has-requires-2 mode-requires has-reset-requires is-on-requires returns)
+may-count-spec = tie.close (tie.spec has-requires has-requires-2 mode-requires inhibited-requires returns)
