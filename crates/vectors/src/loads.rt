@@ -4,7 +4,7 @@ use counter::rules;
 use counter::state::Settings;
 use libc::STDOUT_FILENO;
 
-fn settings(pfn: i16, mode: i16, hip: i32, lop: i32, ovf: i32, unf: i32) -> Settings {
+pub fn settings(pfn: i16, mode: i16, hip: i32, lop: i32, ovf: i32, unf: i32) -> Settings {
     Settings {
         pfn,
         mode,
