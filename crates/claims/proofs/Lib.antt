@@ -3,3 +3,4 @@ pub mod Claims
 pub mod Comparing
 pub mod Drawing
 pub mod Differing
+pub mod Resetting
