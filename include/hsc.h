@@ -29,8 +29,8 @@
  * The version of this header: in words, and as one number, major * 10000 + minor * 100 + patch. A program compares the
  * number with hsc_version() at its start, to see that header and archive belong together.
  */
-#define HSC_VERSION "0.4.0"
-#define HSC_VERSION_NUMBER 400
+#define HSC_VERSION "0.5.0"
+#define HSC_VERSION_NUMBER 500
 
 #define HSC_HEADER_SIZE 24
 #define HSC_EVENT_SIZE 12
