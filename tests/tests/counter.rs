@@ -1,5 +1,5 @@
 //! Document 01's own rows of the counter: the bench table, the load rows, single events and
-//! the snapshot's layout.
+//! the snapshot's layout; and the rows of document 02, request 4.
 
 use hsc_tests::generate::event::event;
 use hsc_tests::generate::state::{loaded, p};
@@ -167,7 +167,7 @@ fn enter_run_empties_the_queue_and_loads_by_as() {
 #[test]
 fn counts_by_mode() {
     // Levels before, levels after, and the count in modes 0 to 7; -10 is the reset from 10.
-    let rows: [(u8, u8, [i32; 8]); 12] = [
+    let rows: [(u8, u8, [i32; 8]); 16] = [
         (0, 1, [1, 1, 1, 1, 1, 1, 1, 1]),
         (0, 3, [1, 1, -1, -1, 0, 0, 0, 0]),
         (2, 3, [1, 1, -1, -1, 1, 1, 0, 0]),
@@ -178,8 +178,12 @@ fn counts_by_mode() {
         (1, 2, [0, 0, 0, 0, -1, -1, 0, 0]),
         (1, 1, [0, 0, 0, 0, 0, 0, 0, 0]),
         (0, 9, [1, 0, 1, 0, 1, 0, 1, 0]),
-        (4, 5, [1, 1, 1, 1, 1, 1, 1, 1]),
-        (0, 5, [1, -10, 1, -10, 1, -10, 1, -10]),
+        (4, 5, [1, 1, 1, 1, 1, 1, 1, 0]),
+        (0, 5, [1, -10, 1, -10, 1, -10, 1, 0]),
+        (0, 4, [0, -10, 0, -10, 0, -10, 0, 0]),
+        (5, 4, [0, 0, 0, 0, 0, 0, -1, -10]),
+        (1, 4, [0, -10, 0, -10, 0, -10, -1, -10]),
+        (5, 0, [0, 0, 0, 0, 0, 0, -1, -1]),
     ];
     on_each(|subject| {
         for (old, new, counts) in rows {
@@ -193,6 +197,119 @@ fn counts_by_mode() {
                 let counter = after(subject, off, &[(1, 0, new.into())]);
                 assert_eq!(counter.acc, if count == -10 { 0 } else { 10 });
             }
+        }
+    });
+}
+
+/// Settings whose low preset is 0, where a reset goes; the limits are far away.
+fn low_at_0(mode: i16) -> Settings {
+    Settings { mode, hip: 90, lop: 0, ovf: 99, unf: -99, omb: 0xff, hpo: 1, lpo: 2, ..p() }
+}
+
+/// Takes one sample from ACC 10, from each of the old levels, and expects this ACC: 11 and 9 come
+/// with DIR on and off, and all else but the levels stays.
+fn expect_acc(subject: &dyn Subject, mode: i16, ce: bool, old: &[u8], new: u8, acc: i32) {
+    for &levels in old {
+        for dir in [0, DIR] {
+            let mut before = Counter { levels, ..loaded(low_at_0(mode), 10) };
+            before.flags = before.flags & !CE | if ce { CE } else { 0 } | dir;
+            let flags = match acc {
+                11 => before.flags | DIR,
+                9 => before.flags & !DIR,
+                _ => before.flags,
+            };
+            let counter = after(subject, before, &[(1, 0, new.into())]);
+            let want = Counter { levels: new, acc, flags, ..before };
+            assert_eq!(counter, want, "mode {mode}, CE {ce}, levels {levels} to {new}");
+        }
+    }
+}
+
+#[test]
+fn input_0_moves_in_modes_6_and_7() {
+    // B, Z, hold and CE; then ACC from 10 in modes 6 and 7 where A falls, and where it rises. What
+    // B, Z and hold were before has no say.
+    let rows = [
+        (0, 0, 0, 0, [10, 10], [10, 10]),
+        (0, 0, 0, 1, [9, 9], [11, 11]),
+        (0, 0, 1, 0, [10, 10], [10, 10]),
+        (0, 0, 1, 1, [9, 10], [11, 10]),
+        (0, 1, 0, 0, [10, 0], [10, 10]),
+        (0, 1, 0, 1, [9, 0], [11, 10]),
+        (0, 1, 1, 0, [10, 0], [10, 10]),
+        (0, 1, 1, 1, [9, 0], [11, 10]),
+        (1, 0, 0, 0, [10, 10], [10, 10]),
+        (1, 0, 0, 1, [10, 10], [10, 10]),
+        (1, 0, 1, 0, [10, 10], [10, 10]),
+        (1, 0, 1, 1, [10, 10], [10, 10]),
+        (1, 1, 0, 0, [10, 10], [10, 10]),
+        (1, 1, 0, 1, [10, 10], [10, 10]),
+        (1, 1, 1, 0, [10, 10], [10, 10]),
+        (1, 1, 1, 1, [10, 10], [10, 10]),
+    ];
+    on_each(|subject| {
+        for (b, z, hold, ce, fallen, risen) in rows {
+            let off = 2 * b + 4 * z + 8 * hold;
+            for (mode, fallen, risen) in [(6, fallen[0], risen[0]), (7, fallen[1], risen[1])] {
+                expect_acc(subject, mode, ce == 1, &[1, 3, 5, 7, 9, 11, 13, 15], off, fallen);
+                expect_acc(subject, mode, ce == 1, &[0, 2, 4, 6, 8, 10, 12, 14], off + 1, risen);
+            }
+        }
+    });
+}
+
+#[test]
+fn input_2_rises_in_odd_modes() {
+    // Alone, with the other inputs off or on; ACC from 10 in modes 1, 3, 5 and 7.
+    on_each(|subject| {
+        for others in [0, 1, 2, 3, 8, 9, 10, 11] {
+            for (mode, acc) in [(1, 0), (3, 0), (5, 0), (7, 10)] {
+                for ce in [false, true] {
+                    expect_acc(subject, mode, ce, &[others], others + 4, acc);
+                }
+            }
+        }
+    });
+}
+
+#[test]
+fn modes_1_3_and_5_do_not_reset_as_mode_7_does() {
+    // A falls with B off and Z on, which was on before.
+    on_each(|subject| {
+        for (mode, acc) in [(1, 10), (3, 10), (5, 10), (7, 0)] {
+            for ce in [false, true] {
+                expect_acc(subject, mode, ce, &[5, 7], 4, acc);
+            }
+        }
+    });
+}
+
+#[test]
+fn mode_7_resets_from_anywhere_and_raises_nothing() {
+    let low = low_at_0(7);
+    let high = Settings { hip: 0, lop: -90, ..low };
+    on_each(|subject| {
+        for settings in [low, high] {
+            for acc in [i32::MIN, -99, -90, -1, 0, 1, 90, 99, i32::MAX] {
+                for dir in [0, DIR] {
+                    let before = Counter { levels: 5, ..loaded(settings, acc) };
+                    let before = Counter { flags: before.flags | dir, ..before };
+                    let want = Counter { levels: 4, acc: 0, ..before };
+                    assert_eq!(after(subject, before, &[(1, 0, 4)]), want, "from {acc}");
+                }
+            }
+        }
+    });
+}
+
+#[test]
+fn mode_7_not_loaded() {
+    let staged = Settings { mode: 7, ..p() };
+    let before = Counter { staged, acc: 10, flags: CE | DIR, ..Counter::fresh() };
+    on_each(|subject| {
+        for (old, new) in [(1, 4), (5, 4), (0, 4), (1, 0), (0, 1)] {
+            let counter = after(subject, Counter { levels: old, ..before }, &[(1, 0, new.into())]);
+            assert_eq!(counter, Counter { levels: new, ..before }, "levels {old} to {new}");
         }
     });
 }

@@ -1,4 +1,4 @@
-//! What an input sample counts, by mode ("One input sample").
+//! What an input sample counts, by mode ("One input sample"; mode 7 by document 02, request 4).
 
 use super::counter::Counter;
 use super::flags::{CE, DIR, LOADED, MD, OF, UF};
@@ -14,21 +14,27 @@ impl Counter {
             return None;
         }
         let mode = self.active.mode;
-        let resets_and_holds = mode % 2 == 1;
-        if resets_and_holds && rises & 4 != 0 {
+        let (rise_0, fall_0) = (rises & 1 != 0, falls & 1 != 0);
+        let (input_1, input_2) = (levels & 2 != 0, levels & 4 != 0);
+        let resets = match mode {
+            1 | 3 | 5 => rises & 4 != 0,
+            7 => fall_0 && !input_1 && input_2,
+            _ => false,
+        };
+        if resets {
             self.acc = 0;
             return None;
         }
-        if !self.has(CE) || resets_and_holds && levels & 8 != 0 {
+        let holds = mode % 2 == 1 && levels & 8 != 0;
+        if !self.has(CE) || holds {
             return None;
         }
-        let input_1 = levels & 2 != 0;
-        let rise_0 = rises & 1 != 0;
         let (up, down) = match mode {
             0 | 1 => (rise_0, false),
             2 | 3 => (rise_0 && !input_1, rise_0 && input_1),
             4 | 5 => (rise_0, rises & 2 != 0),
-            _ => (rise_0 && !input_1, falls & 1 != 0 && !input_1),
+            6 => (rise_0 && !input_1, fall_0 && !input_1),
+            _ => (rise_0 && !input_1 && !input_2, fall_0 && !input_1 && !input_2),
         };
         let cause = match (up, down) {
             (true, false) => self.count_up(),
