@@ -29,7 +29,7 @@ pub fn restamp(rng: &mut Rng, events: &mut [u8]) {
     events.as_chunks_mut().0.iter_mut().for_each(|event| stamp(rng, event));
 }
 
-/// Levels with pulses on inputs 0 and 1, seldom a reset or a hold.
+/// Levels with pulses on inputs 0 and 1, seldom with input 2 or a hold.
 fn levels(rng: &mut Rng) -> i32 {
     let mut levels = rng.below(4) as i32;
     if rng.once_in(8) {

@@ -7,6 +7,7 @@ pub mod pair;
 pub mod parts;
 pub mod patch;
 mod rng;
+pub mod sampling;
 pub mod state;
 
 pub use rng::Rng;

@@ -11,7 +11,7 @@ use std::ops::Range;
 use case::{Answer, Call, Case, PAINT};
 use tally::Tally;
 
-use crate::generate::{change_length, drawing, event, image, pair, parts, patch, state, Rng};
+use crate::generate::{change_length, drawing, event, image, pair, parts, patch, sampling, state, Rng};
 use crate::model::event::{row, Event};
 use crate::model::{counter::Counter, snapshot};
 use crate::subject::{Model, Subject};
@@ -90,7 +90,12 @@ fn read(subject: &dyn Subject, rng: &mut Rng, tally: &mut Tally) -> Result<(), S
 }
 
 fn step(subject: &dyn Subject, rng: &mut Rng, tally: &mut Tally) -> Result<(), String> {
-    let case = Case::step(&state::lent(rng), &event_input(rng, 8));
+    let case = if rng.once_in(4) {
+        let (snapshot, sample) = sampling::any(rng);
+        Case::step(&snapshot, &sample)
+    } else {
+        Case::step(&state::lent(rng), &event_input(rng, 8))
+    };
     let answer = compare(subject, &case, tally)?;
     if answer.status == 0 {
         let mut counter = snapshot::decode(case.buffer[..].try_into().unwrap());

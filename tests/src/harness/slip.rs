@@ -1,6 +1,8 @@
 //! Subjects that are wrong on purpose, each by one slip over the model, to see that the
 //! harness catches it.
 
+mod sample;
+
 use std::cell::Cell;
 use std::ops::Range;
 
@@ -9,6 +11,7 @@ use crate::generate::parts::BLOCK;
 use crate::model::counter::{Counter, OUTPUTS};
 use crate::model::{event, flags, snapshot, Refusal};
 use crate::subject::{Model, Subject};
+use sample::Sampling;
 
 /// Where a snapshot has ACC.
 const ACC: Range<usize> = 52..56;
@@ -21,6 +24,8 @@ pub enum Slip {
     OverflowAtLimit,
     /// The program's output word goes by the staged mask.
     StagedMask,
+    /// A sample by another rule, in a step.
+    Sample(Sampling),
     ReplayRefusesAll,
     MendTouchesNothing,
     /// Mends once, then says it did and touches nothing.
@@ -80,8 +85,8 @@ pub enum Slip {
 }
 
 impl Slip {
-    pub fn all() -> [Slip; 33] {
-        [
+    pub fn all() -> Vec<Slip> {
+        let mut all = vec![
             Slip::StepRefusesAll,
             Slip::StepIsFixed,
             Slip::OverflowAtLimit,
@@ -115,7 +120,9 @@ impl Slip {
             Slip::FirstBlockAlone,
             Slip::WholeBlocksAlone,
             Slip::LooksPast,
-        ]
+        ];
+        all.extend(Sampling::ALL.map(Slip::Sample));
+        all
     }
 }
 
@@ -128,6 +135,7 @@ impl Subject for Slip {
         if matches!(self, Slip::StepRefusesAll) {
             return 9;
         }
+        let old = snapshot.to_vec();
         let status = Model.step(snapshot, event);
         if status != 0 {
             return status;
@@ -143,6 +151,9 @@ impl Subject for Slip {
                 let outside = !counter.staged.omb & OUTPUTS;
                 let word = u16::from_le_bytes([event[4], event[5]]);
                 counter.outputs = counter.outputs & !outside | word & outside;
+            }
+            Slip::Sample(rule) if event[0] == 1 => {
+                counter = rule.sampled(snapshot::decode(old[..].try_into().unwrap()), event[4]);
             }
             _ => {}
         }

@@ -19,7 +19,7 @@ pub struct Tally {
 }
 
 /// Each heading with the numbers that must be reached under it.
-const REQUIRED: [(&str, &[u32]); 49] = [
+const REQUIRED: [(&str, &[u32]); 56] = [
     (CHECK, &[0, 1, 9]),
     (STEP, &[0, 5, 6, 9]),
     (READ, &[0, 6, 9]),
@@ -32,6 +32,13 @@ const REQUIRED: [(&str, &[u32]); 49] = [
     (PRESET_LOAD, &[0, 3, 4, 5]),
     (RESET, &[1, 3, 5, 7]),
     (HELD, &[1, 3, 5, 7]),
+    (RESET_DESPITE, &[0, 1, 2, 3]),
+    (RESET_NEWLY, &[0, 1, 2, 3]),
+    (RESET_DIR, &[0, 1]),
+    (RESET_ONTO, &[1, 2]),
+    (Z_RISES, &[0, 1, 2]),
+    (A_FALLS, &[0, 1, 2, 3]),
+    (A_RISES, &[0, 1]),
     (RAISED, CAUSES),
     (STARTED, CAUSES),
     (WAITED, CAUSES),
@@ -93,8 +100,19 @@ const MEND: &str = "mend: refusal";
 const AT_PLACE: &str = "refusal at a place past 0";
 const KIND: &str = "event taken: kind";
 const MODE: &str = "sample taken: mode";
-const RESET: &str = "sample with input 2 rising: mode";
+const RESET: &str = "sample that resets: mode";
 const HELD: &str = "sample with input 3 on: mode";
+const RESET_DESPITE: &str = "reset in mode 7, ACC not 0 or 1: 0 CE 1 and no hold, 1 CE 0, 2 hold, 3 both";
+const RESET_NEWLY: &str =
+    "reset in mode 7, ACC not 0 or 1: 0 B off and Z on from before, 1 B falls, 2 Z rises, 3 both";
+const RESET_DIR: &str = "reset in mode 7, ACC not 0 or 1: DIR";
+const RESET_ONTO: &str = "reset in mode 7 onto a preset, ACC not 0 or 1: 1 LOP, 2 HIP";
+const Z_RISES: &str =
+    "Z rises in mode 7, A does not fall, ACC not 0 or 1: nothing but levels, A 0 off, 1 on, 2 rises";
+const A_FALLS: &str =
+    "A falls in mode 7, CE 1, no hold, no reset: B off, down, Z 0 off from before, 1 falls; \
+     B on, no count, Z 2 off, 3 on";
+const A_RISES: &str = "A rises in mode 7, CE 1, no hold, B off: 0 Z off, up, 1 Z on, no count";
 const LOAD: &str = "load: ER";
 const PRESET_LOAD: &str = "preset load: ER";
 const RAISED: &str = "cause raised";
@@ -142,6 +160,10 @@ const SHARED: &str =
     "first difference in one memory: 0 of a part and itself, 1 of parts that overlap, 2 apart";
 const IN_BLOCK: &str = "first difference: place modulo 64";
 const BLOCK_END: &str = "first difference: none, the shorter's length modulo 64";
+
+/// An input's level before a sample, and its new one.
+const RISES: (bool, bool) = (false, true);
+const FALLS: (bool, bool) = (true, false);
 
 /// Whether a place is 0 the first of many, 1 in between, 2 the last of many, 3 the only one.
 fn end_or_between(place: usize, count: usize) -> u32 {
@@ -370,11 +392,13 @@ impl Tally {
         let mode = counter.active.mode as u32;
         if counter.has(flags::LOADED) {
             self.add(MODE, mode);
-            if levels & !counter.levels & 4 != 0 {
-                self.add(RESET, mode);
-            }
             if levels & 8 != 0 {
                 self.add(HELD, mode);
+            }
+            match mode {
+                1 | 3 | 5 if levels & !counter.levels & 4 != 0 => self.add(RESET, mode),
+                7 => self.mode_7(counter, levels),
+                _ => {}
             }
         }
         if let Some((cause, fate)) = counter.sample(levels) {
@@ -386,6 +410,44 @@ impl Tally {
                 Fate::Dropped => DROPPED,
             };
             self.add(heading, cause.into());
+        }
+    }
+
+    /// Counts what a sample meets in mode 7, each input by its level before and its new one. From
+    /// ACC 0 or 1 a reset need not be seen: a count, or nothing, may leave the same.
+    fn mode_7(&mut self, counter: &Counter, levels: u8) {
+        let input = |number: u8| (counter.levels >> number & 1 != 0, levels >> number & 1 != 0);
+        let [a, b, z, (_, hold)] = [0, 1, 2, 3].map(input);
+        let hindrance = u32::from(!counter.has(flags::CE)) + 2 * u32::from(hold);
+        let seen = !matches!(counter.acc, 0 | 1);
+        match (a, b, z) {
+            (FALLS, (b_before, false), (z_before, true)) => {
+                self.add(RESET, 7);
+                if seen {
+                    self.add(RESET_DESPITE, hindrance);
+                    self.add(RESET_NEWLY, u32::from(b_before) + 2 * u32::from(!z_before));
+                    self.reset_onto(counter);
+                }
+            }
+            (FALLS, (_, false), (z_before, false)) if hindrance == 0 => self.add(A_FALLS, z_before.into()),
+            (FALLS, (_, true), (_, z)) if hindrance == 0 => self.add(A_FALLS, 2 + u32::from(z)),
+            (RISES, (_, false), (_, z)) if hindrance == 0 => self.add(A_RISES, z.into()),
+            _ => {}
+        }
+        match a {
+            (before, now) if seen && z == RISES && before == now => self.add(Z_RISES, now.into()),
+            RISES if seen && z == RISES => self.add(Z_RISES, 2),
+            _ => {}
+        }
+    }
+
+    fn reset_onto(&mut self, counter: &Counter) {
+        self.add(RESET_DIR, counter.has(flags::DIR).into());
+        if counter.active.lop == 0 {
+            self.add(RESET_ONTO, 1);
+        }
+        if counter.active.hip == 0 {
+            self.add(RESET_ONTO, 2);
         }
     }
 
