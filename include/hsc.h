@@ -102,7 +102,11 @@ enum hsc_cause {
     HSC_CAUSE_COUNT = 5
 };
 
-/* The counting mode, an active MOD; each odd one is the mode before it with reset (input 2) and hold (input 3). */
+/*
+ * The counting mode, an active MOD; each odd one is the mode before it with reset (input 2) and hold (input 3). Modes 1,
+ * 3 and 5 reset when input 2 rises. Mode 7 resets when input 0 falls with input 1 off and input 2 on, and counts only
+ * with input 2 off.
+ */
 enum hsc_mode {
     HSC_MODE_UP = 0,
     HSC_MODE_UP_HELD = 1,

@@ -1,5 +1,5 @@
-/* Calls the library as the depot's program does: a fresh snapshot is stepped and read back, an image is replayed and mended,
- * two traces are compared, events are drawn, two tables are told apart by their bytes, and refusals are met.
+/* Calls the library as the depot's program does: a fresh snapshot is stepped and read back, mode 7 is reset, an image is
+ * replayed and mended, two traces are compared, events are drawn, two tables are told apart by their bytes, and refusals are met.
  * One line for each check; the first that fails ends the run with status 1.
  *
  *   rt staticlib hsc
@@ -135,6 +135,34 @@ static void steps(void) {
     check_read("a second one waits, and UIP and LPR are shown", snapshot,
                (int32_t[HSC_FIELD_COUNT]){3, 2, 5, low, high, low, 0, 0, 0, 3, 2, 5, low, high, low, [18] = low, [21] = 0x897e5,
                                           [22] = 1, [23] = 2, [24] = 2, [26] = 1, [27] = 1, [28] = 1, [29] = 1, [31] = 1});
+}
+
+/* The accumulator after an input sample. */
+static void check_sample(const char *what, uint8_t snapshot[HSC_SNAPSHOT_SIZE], int32_t levels, int32_t acc) {
+    int32_t fields[HSC_FIELD_COUNT];
+    step(snapshot, HSC_INPUT_SAMPLE, 0, levels);
+    check(what, hsc_read(snapshot, HSC_SNAPSHOT_SIZE, fields) == 0 && fields[HSC_LEVELS] == levels && fields[HSC_ACC] == acc);
+}
+
+static void resets(void) {
+    const int32_t a = 1, b = 2, z = 4, hold = 8;
+    uint8_t snapshot[HSC_SNAPSHOT_SIZE];
+    fresh(snapshot);
+    step(snapshot, HSC_DEVICE_WRITE, HSC_DEVICE_PFN, 3);
+    step(snapshot, HSC_DEVICE_WRITE, HSC_DEVICE_MOD, HSC_MODE_QUADRATURE_HELD);
+    step(snapshot, HSC_FLAG_WRITE, HSC_FLAG_SP, 1);
+    step(snapshot, HSC_FLAG_WRITE, HSC_FLAG_CE, 1);
+    step(snapshot, HSC_ACC_WRITE, 0, 6);
+    check_sample("mode 7: A rises with B and Z off, a count up", snapshot, a, 7);
+    check_sample("a rising Z does nothing by itself", snapshot, a + z, 7);
+    check_sample("A falls with B off and Z on, a reset", snapshot, z, 0);
+    check_sample("A rises with Z on, no count", snapshot, a + z, 0);
+    check_sample("A and Z fall with B off, a count down", snapshot, 0, -1);
+    check_sample("A rises with B and Z on, no count", snapshot, a + b + z, -1);
+    check_sample("A falls with B on, neither", snapshot, b + z, -1);
+    step(snapshot, HSC_FLAG_WRITE, HSC_FLAG_CE, 0);
+    check_sample("CE 0 and hold: A rises, no count", snapshot, a + z + hold, -1);
+    check_sample("CE 0 and hold: A falls with B off and Z on, a reset all the same", snapshot, z + hold, 0);
 }
 
 static void refusals(void) {
@@ -425,6 +453,7 @@ int main(void) {
     version();
     events();
     steps();
+    resets();
     refusals();
     images();
     comparisons();
