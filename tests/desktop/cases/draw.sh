@@ -235,6 +235,26 @@ night zero
 marked zero overflows 1 '1 rollover past OVF'
 marked zero resets 0
 
+# samples INPUTS..: a sample with each of these.
+samples() {
+    printf 'inputs %s\n' "$@"
+}
+
+# In mode 7 a pulse of input 2 is no reset, nor is a fall of input 0 with input 1 on, or with 2 off. A fall with 1 off and
+# 2 on is one, also where the counter stands at 0, and with CE 0 or a hold.
+{ settings 7 90 -90 99 -99; echo 'ACC 5'; pulses 2 3; } > pulsed.txt
+night pulsed
+marked pulsed resets 0
+{ settings 7 90 -90 99 -99; echo 'ACC 5'; pulses 2 2; samples '0 1 2' '1 2' none '0 1' 1 2 '0 2' 2 '0 2' 2; echo 'ACC 5'
+    samples '0 2 3' '2 3'; echo 'flag CE 0'; echo 'ACC 5'; samples '0 2' 2 '0 2' 2 '0 2 3' '2 3'; echo 'flag CE 1'
+    samples none 0 '0 2' none; } > seven.txt
+night seven
+verdict 'seven: its counts' [ "$(sed 1,10d seven.csv | cut -d , -f 2 | tr '\n' ' ')" = \
+    '5 5 5 5 5 5 5 5 5 5 5 5 0 0 0 5 5 0 0 5 5 0 0 0 0 0 0 0 1 1 0 ' ]
+marked seven resets 6 '6 resets'
+marked seven overflows 0
+marked seven underflows 0
+
 # Gaps, as bands in the frame and bars in their lane.
 { echo 'ACC 3'; yes blank | head -n 3; echo 'ACC 4'; echo blank; } > gaps.txt
 night gaps
