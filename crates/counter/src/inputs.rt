@@ -8,7 +8,7 @@ ghost use Rattle.counter.specs.Sample.{rises, falls, hasReset, resetBy, 
 ghost use Rattle.counter.specs.Idle.{noneRises};
 
 // Whether input n is on.
-fn is_on(levels: u8, n: u32) -> bool
+pub fn is_on(levels: u8, n: u32) -> bool
     requires { ⌜ n < 32 ⌝ }
     ensures { λ r. ⌜ r ≡ bit levels n ⌝ }
 {
@@ -16,7 +16,7 @@ fn is_on(levels: u8, n: u32) -> bool
 }
 
 // Whether input n goes from off to on.
-fn rises(old: u8, new: u8, n: u32) -> bool
+pub fn rises(old: u8, new: u8, n: u32) -> bool
     requires { ⌜ n < 32 ⌝ }
     ensures { λ r. ⌜ r ≡ rises old new n ⌝ }
 {
@@ -39,7 +39,7 @@ pub fn none_rises(old: u8, new: u8) -> bool
 }
 
 // Modes 1, 3, 5 and 7 have a reset and a hold.
-fn has_reset(m: u8) -> bool
+pub fn has_reset(m: u8) -> bool
     ensures { λ r. ⌜ r ≡ hasReset m ⌝ }
 {
     (m < 8) & (m % 2 == 1)
