@@ -1,4 +1,4 @@
--- Document 01, "One input sample": edges, reset and hold, the mode's table, and what a count makes of ACC and the flags.
+-- Document 01, "One input sample", with document 02's request 4: edges, reset and hold, the mode's table, and what a count does.
 use mathlib.Core.Bool.{Bool, cond, not, _&&_, _||_}
 use Prim.Native.Nat.{ℕ, _%_}
 use lib.Dec.{eqb, ltb}
