@@ -23,17 +23,19 @@ module _ (new : ℕ) (c : Counter) where
     pub resets-seven : resets new c ≡ (flag c LOADED && falls (c .levels) new 0 && not (bit new 1) && bit new 2)
     resets-seven = counter.Resets.resets-seven new c seven
 
-    -- it counts as mode 6 does, if CE is 1 and inputs 3 and 2 are off
-    pub count-seven : count new c ≡ cond (flag c LOADED && flag c CE && not (bit new 3 || bit new 2)) (byPhase (c .levels) new) None
+    -- it may count if CE is 1 and inputs 3 and 2 are off, and then counts as mode 6 does
+    pub may-count-seven : mayCount new c ≡ (flag c LOADED && flag c CE && not (bit new 3 || bit new 2))
+    may-count-seven = counter.Resets.may-count-seven new c seven
+
+    pub count-seven : count new c ≡ cond (mayCount new c) (byPhase (c .levels) new) None
     count-seven = counter.Resets.count-seven new c seven
 
     -- so never with input 2 on, where nothing but the levels changes unless input 0 falls
-    module _ (on : bit new 2 ≡ true) where
-      pub count-on : count new c ≡ None
-      count-on = counter.Resets.count-on new c seven on
+    pub count-on : bit new 2 ≡ true → count new c ≡ None
+    count-on = counter.Resets.count-on new c seven
 
-      pub still-on : falls (c .levels) new 0 ≡ false → sample new c ≡ withLevels new c
-      still-on = counter.Resets.still-on new c seven on
+    pub still-on : bit new 2 ≡ true → falls (c .levels) new 0 ≡ false → sample new c ≡ withLevels new c
+    still-on = counter.Resets.still-on new c seven
 
   -- ---- a reset, in any mode
 

@@ -1,6 +1,6 @@
 -- Laws of the reset, and of what inhibits a count, by mode.
-use mathlib.Core.Path.{_≡_, refl, sym, ap, _∙_}
-use mathlib.Core.Bool.{Bool, true, false, cond, not, _&&_, _||_, and-assoc, and-false, or-true, or-false, and-not-self}
+use mathlib.Core.Path.{_≡_, sym, ap, _∙_}
+use mathlib.Core.Bool.{true, false, cond, not, _&&_, _||_, and-assoc, and-false, or-true, or-false, and-not-self, and-eq-true-iff}
 use Prim.Native.Nat.{ℕ}
 use borrow.Author.Tests.{ne-eqb}
 use lib.IntN.{pos}
@@ -30,7 +30,7 @@ module _ (m : ℕ) (other : m ≡ 7 → ⊥) where
 -- ---- the sample
 
 module _ (new : ℕ) (c : Counter) where
-  -- a reset puts ACC to 0 and does not count, raise anything or look at CE and hold
+  -- a reset puts ACC to 0 and stores the levels, and all else stays
   pub reset-leaves : resets new c ≡ true → sample new c ≡ withAcc (pos 0) (withLevels new c)
   unfolding sample sampled
   reset-leaves r = rw r (raise-none (withAcc (pos 0) (withLevels new c)))
@@ -63,33 +63,31 @@ module _ (new : ℕ) (c : Counter) where
     unfolding mayCount inhibited hasReset
     may-count-seven = rw seven
 
+    may-count-on : bit new 2 ≡ true → mayCount new c ≡ false
+    may-count-on on = may-count-seven ∙ rw (on, or-true (bit new 3)) (and-false (flag c LOADED && flag c CE))
+
+    -- a reset has input 2 on
+    may-count-reset : resets new c ≡ true → mayCount new c ≡ false
+    may-count-reset r = may-count-on (and-eq-true-iff (flag c LOADED && falls (c .levels) new 0 && not (bit new 1)) (bit new 2) .0 (sym resets-seven ∙ r) .1)
+
+    -- the counts are those of mode 6
+    pub count-seven : count new c ≡ cond (mayCount new c) (byPhase (c .levels) new) None
+    unfolding count direction
+    count-seven =
+        cond-cases (λ (way : Count). way ≡ cond (mayCount new c) (byPhase (c .levels) new) None) (resets new c) None _
+        (λ r. rw (may-count-reset r))
+        (λ r. rw seven)
+
+    pub count-on : bit new 2 ≡ true → count new c ≡ None
+    count-on on = count-seven ∙ rw (may-count-on on)
+
     resets-high : falls (c .levels) new 0 ≡ false → resets new c ≡ false
     resets-high high = resets-seven ∙ rw (high, and-false (flag c LOADED))
 
-    resets-off : bit new 2 ≡ false → resets new c ≡ false
-    resets-off off = resets-seven ∙ rw off (and-false (flag c LOADED && falls (c .levels) new 0 && not (bit new 1)))
-
-    module _ (on : bit new 2 ≡ true) where
-      may-count-on : mayCount new c ≡ false
-      may-count-on = may-count-seven ∙ rw (on, or-true (bit new 3)) (and-false (flag c LOADED && flag c CE))
-
-      pub count-on : count new c ≡ None
-      unfolding count
-      count-on = cond-cases (λ (way : Count). way ≡ None) (resets new c) None _ (λ r. refl) (λ r. rw may-count-on)
-
-      -- without a fall of input 0 nothing comes of it but its levels
-      pub still-on : falls (c .levels) new 0 ≡ false → sample new c ≡ withLevels new c
-      unfolding sampled countedBy
-      still-on high = unmoved-sample (rw (resets-high high, count-on))
-
-    -- the counts of mode 6, while input 2 is off
-    pub count-seven : count new c ≡ cond (flag c LOADED && flag c CE && not (bit new 3 || bit new 2)) (byPhase (c .levels) new) None
-    unfolding count direction
-    count-seven = go (bit new 2) refl
-      where
-        go : (b : Bool) → bit new 2 ≡ b → count new c ≡ cond (flag c LOADED && flag c CE && not (bit new 3 || bit new 2)) (byPhase (c .levels) new) None
-        go true on = count-on on ∙ ap (λ (t : Bool). cond t (byPhase (c .levels) new) None) (sym (sym may-count-seven ∙ may-count-on on))
-        go false off = rw (resets-off off, may-count-seven, seven)
+    -- with input 2 on and no fall of input 0 nothing comes of it but its levels
+    pub still-on : bit new 2 ≡ true → falls (c .levels) new 0 ≡ false → sample new c ≡ withLevels new c
+    unfolding sampled countedBy
+    still-on on high = unmoved-sample (rw (resets-high high, count-on on))
 
 -- input 2 rises alone
 pub rise-alone : (c : Counter) → mode c ≡ 7 → sample (setBit (c .levels) 2) c ≡ withLevels (setBit (c .levels) 2) c

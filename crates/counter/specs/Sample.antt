@@ -29,11 +29,11 @@ falls old new n = bit old n && not (bit new n)
 unfoldable pub hasReset : ℕ → Bool
 hasReset m = ltb m 8 && eqb (m % 2) 1
 
--- 1, 3, 5: input 2 rises; 7: input 0 falls, 1 off, 2 on
+-- a reset in 1, 3, 5: input 2 rises; in 7: input 0 falls, 1 off, 2 on
 unfoldable pub resetBy : ℕ → ℕ → ℕ → Bool
 resetBy m old new = hasReset m && cond (eqb m 7) (falls old new 0 && not (bit new 1) && bit new 2) (rises old new 2)
 
--- 1, 3, 5, 7: the hold is on; 7: input 2 is on as well
+-- no count in 1, 3, 5, 7 with the hold on, nor in 7 with input 2 on
 unfoldable pub inhibited : ℕ → ℕ → Bool
 inhibited m new = hasReset m && (bit new 3 || eqb m 7 && bit new 2)
 
