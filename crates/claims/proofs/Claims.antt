@@ -76,6 +76,8 @@ pub calls-met : {M : Type 1} → hsc.version.hsc_version.Statement.statement M �
     × hsc.replaying.hsc_replay.Statement.statement M × hsc.mending.hsc_mend.Statement.statement M
     × hsc.comparing.hsc_compare.Statement.statement M × hsc.comparing.hsc_rest.Statement.statement M
     × hsc.drawing.hsc_draw.Statement.statement M × hsc.differing.hsc_first_difference.Statement.statement M
+    × hsc.receiving.hsc_reader_new.Statement.statement M × hsc.receiving.hsc_reader_feed.Statement.statement M
+    × hsc.receiving.hsc_reader_end.Statement.statement M
 calls-met = (
   hsc.version.hsc_version.Met.met,
   hsc.checking.hsc_event_check.Met.met,
@@ -87,6 +89,9 @@ calls-met = (
   hsc.comparing.hsc_rest.Met.met,
   hsc.drawing.hsc_draw.Met.met,
   hsc.differing.hsc_first_difference.Met.met,
+  hsc.receiving.hsc_reader_new.Met.met,
+  hsc.receiving.hsc_reader_feed.Met.met,
+  hsc.receiving.hsc_reader_end.Met.met,
 )
 
 -- The contracts, as the checker reads them for a caller: what is asked of the arguments, and what is learnt of them, the answer r and the

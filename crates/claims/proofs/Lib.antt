@@ -4,3 +4,4 @@ pub mod Comparing
 pub mod Drawing
 pub mod Differing
 pub mod Resetting
+pub mod Receiving

@@ -6,6 +6,7 @@ pub mod drawing;
 mod filling;
 pub mod mending;
 pub mod reading;
+pub mod receiving;
 pub mod replaying;
 pub mod stepping;
 pub mod version;

@@ -1,0 +1,22 @@
+-- The laws of the reader in bytes.
+pub mod Laid
+pub mod Heads
+pub mod Split
+pub mod Views
+pub mod Written
+pub mod RoundTrip
+pub mod Refusals
+pub mod Turning
+pub mod HeaderTurns
+pub mod Taken
+pub mod EventTurns
+pub mod PassTurns
+pub mod Handed
+pub mod Shown
+pub mod Ends
+pub mod Ready
+pub mod Bounds
+pub mod Again
+pub mod FirstFault
+pub mod Driven
+pub mod Receivers
