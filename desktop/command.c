@@ -21,6 +21,8 @@ const struct command COMMANDS[] = {
      TAKES(OPTION_CHECK) | TAKES(OPTION_DRY_RUN) | TAKES(OPTION_OUT), 3, 3, command_mend},
     {"encode", "TEXT OUT", "make a patch of events in words", 0, 2, 2, command_encode},
     {"build", "EVENTS K OUT", "make an image of events, with a snapshot for every K", 0, 3, 3, command_build},
+    {"receive", "OUT [-]", "take an image as it comes on standard input, and write it once it is whole", 0, 1, 2,
+     command_receive},
     {"help", "[COMMAND]", "print what the commands, or this one, take and do", 0, 0, 1, command_help},
     {NULL, NULL, NULL, 0, 0, 0, NULL},
 };

@@ -56,6 +56,9 @@ enum outcome command_check(const struct request *request);
 /* IMAGE IMAGE: the places where their events differ. */
 enum outcome command_compare(const struct request *request);
 
+/* OUT [-]: an image that comes on standard input. */
+enum outcome command_receive(const struct request *request);
+
 /* [COMMAND]: what the commands, or this one, take and do. */
 enum outcome command_help(const struct request *request);
 

@@ -3,7 +3,6 @@
 
 #include "bytes.h"
 #include "header.h"
-#include "hsc.h"
 
 #include <inttypes.h>
 #include <stdio.h>
@@ -20,6 +19,23 @@ static size_t snapshot_offset(uint32_t events)
     return HSC_HEADER_SIZE + (size_t)events * HSC_EVENT_SIZE;
 }
 
+void image_measure(struct image *image, const uint8_t header[HSC_HEADER_SIZE])
+{
+    image->events = number_at(header + EVENTS_AT);
+    image->snapshots = number_at(header + SNAPSHOTS_AT);
+    image->spacing = number_at(header + SPACING_AT);
+    image->size = snapshot_offset(image->events) + (size_t)image->snapshots * HSC_SNAPSHOT_SIZE;
+}
+
+void image_print_header(const char *path, const uint8_t header[HSC_HEADER_SIZE])
+{
+    fprintf(stderr,
+            "hsc: %s: header: event count %" PRIu32 ", event offset %" PRIu32 ", snapshot count %" PRIu32
+            ", snapshot offset %" PRIu32 ", spacing %" PRIu32 ", sixth %" PRIu32,
+            path, number_at(header + EVENTS_AT), number_at(header + EVENT_OFFSET_AT), number_at(header + SNAPSHOTS_AT),
+            number_at(header + SNAPSHOT_OFFSET_AT), number_at(header + SPACING_AT), number_at(header + SIXTH_AT));
+}
+
 /* Tells a refusal with the numbers that it is about. */
 static enum outcome refuse_header(const struct file *file, const uint8_t *header, uint64_t status)
 {
@@ -27,12 +43,7 @@ static enum outcome refuse_header(const struct file *file, const uint8_t *header
 
     if (hsc_number(status) == HSC_REFUSED_SHORT)
         return outcome;
-    fprintf(stderr,
-            "hsc: %s: header: event count %" PRIu32 ", event offset %" PRIu32 ", snapshot count %" PRIu32
-            ", snapshot offset %" PRIu32 ", spacing %" PRIu32 ", sixth %" PRIu32,
-            file->path, number_at(header + EVENTS_AT), number_at(header + EVENT_OFFSET_AT),
-            number_at(header + SNAPSHOTS_AT), number_at(header + SNAPSHOT_OFFSET_AT), number_at(header + SPACING_AT),
-            number_at(header + SIXTH_AT));
+    image_print_header(file->path, header);
     if (!file->stream)
         fprintf(stderr, "; file: %jd bytes", (intmax_t)file->status.st_size);
     fprintf(stderr, "\n");
@@ -55,10 +66,7 @@ static enum outcome read_header(struct image *image, const struct file *file, ui
     status = hsc_replay(header, size, last);
     if (hsc_number(status) != HSC_REFUSED_LENGTH)
         return refuse_header(file, header, status);
-    image->events = number_at(header + EVENTS_AT);
-    image->snapshots = number_at(header + SNAPSHOTS_AT);
-    image->spacing = number_at(header + SPACING_AT);
-    image->size = snapshot_offset(image->events) + (size_t)image->snapshots * HSC_SNAPSHOT_SIZE;
+    image_measure(image, header);
     if (!file->stream && file->status.st_size != (off_t)image->size)
         return refuse_header(file, header, status);
     return DONE;
@@ -123,7 +131,7 @@ enum outcome image_check_event(const struct image *image, uint32_t place)
     return tell_refusal(image->path, (uint64_t)place << 32 | HSC_REFUSED_EVENT);
 }
 
-const uint8_t *image_snapshot(const struct image *image, uint32_t index)
+uint8_t *image_snapshot(const struct image *image, uint32_t index)
 {
     return image->bytes + snapshot_offset(image->events) + (size_t)index * HSC_SNAPSHOT_SIZE;
 }

@@ -3,6 +3,7 @@
 #define IMAGE_H
 
 #include "file.h"
+#include "hsc.h"
 #include "tell.h"
 
 #include <stddef.h>
@@ -28,6 +29,12 @@ enum outcome image_read(struct image *image, const struct file *file);
 /* The same of the file of this path, or of standard input. */
 enum outcome image_load(struct image *image, const char *path);
 
+/* Takes the numbers of a header to which neither refusal 2 nor 3 applies, and the size that they ask for. */
+void image_measure(struct image *image, const uint8_t header[HSC_HEADER_SIZE]);
+
+/* Prints the header's numbers on standard error, in a message about the path. No line end. */
+void image_print_header(const char *path, const uint8_t header[HSC_HEADER_SIZE]);
+
 void image_free(struct image *image);
 
 const uint8_t *image_event(const struct image *image, uint32_t place);
@@ -35,6 +42,6 @@ const uint8_t *image_event(const struct image *image, uint32_t place);
 /* Whether the event is legal; one that is not is told and refused, at its place. */
 enum outcome image_check_event(const struct image *image, uint32_t place);
 
-const uint8_t *image_snapshot(const struct image *image, uint32_t index);
+uint8_t *image_snapshot(const struct image *image, uint32_t index);
 
 #endif

@@ -22,15 +22,27 @@ static enum outcome compare_files(const char *out, const char *source)
     return DONE;
 }
 
-enum outcome output_write(const char *out, const char *source, const uint8_t *bytes, size_t size)
+static enum outcome check_word(const char *out)
 {
-    enum outcome outcome = DONE;
-
     if (file_is_standard(out))
         return tell_failure("OUT", "takes the name of a file, not standard output");
-    if (!file_is_standard(source))
+    return DONE;
+}
+
+enum outcome output_write(const char *out, const char *source, const uint8_t *bytes, size_t size)
+{
+    enum outcome outcome = check_word(out);
+
+    if (outcome == DONE && !file_is_standard(source))
         outcome = compare_files(out, source);
     return outcome == DONE ? write_file(out, bytes, size) : outcome;
+}
+
+enum outcome output_check(const char *out)
+{
+    enum outcome outcome = check_word(out);
+
+    return outcome == DONE ? target_check(out) : outcome;
 }
 
 enum outcome output_tell(const char *out)

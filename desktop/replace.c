@@ -7,7 +7,6 @@
 
 #include <errno.h>
 #include <fcntl.h>
-#include <stdbool.h>
 #include <stdio.h>
 #include <stdlib.h>
 #include <string.h>
@@ -176,23 +175,43 @@ static bool name_places(struct replacement *replacement)
     return true;
 }
 
+/* Names what is to be written. free_names is owed, whatever fails. */
+static enum outcome find_names(struct replacement *replacement, const char *path, bool exists)
+{
+    *replacement = (struct replacement){.path = path, .name = exists ? realpath(path, NULL) : strdup(path)};
+    if (replacement->name == NULL)
+        return tell_errno(path, "not written, its path cannot be resolved");
+    if (!name_places(replacement))
+        return tell_errno(path, "not written, no memory for its path");
+    return DONE;
+}
+
+static void free_names(const struct replacement *replacement)
+{
+    free(replacement->temporary);
+    free(replacement->folder);
+    free(replacement->name);
+}
+
 enum outcome replace_file(const char *path, const struct stat *old, const uint8_t *bytes, size_t size)
 {
-    struct replacement replacement = {
-        .path = path,
-        .old = old,
-        .name = old == NULL ? strdup(path) : realpath(path, NULL),
-    };
-    enum outcome outcome;
+    struct replacement replacement;
+    enum outcome outcome = find_names(&replacement, path, old != NULL);
 
-    if (replacement.name == NULL)
-        return tell_errno(path, "not written, its path cannot be resolved");
-    if (name_places(&replacement))
+    replacement.old = old;
+    if (outcome == DONE)
         outcome = with_folder(&replacement, bytes, size);
-    else
-        outcome = tell_errno(path, "not written, no memory for its path");
-    free(replacement.temporary);
-    free(replacement.folder);
-    free(replacement.name);
+    free_names(&replacement);
+    return outcome;
+}
+
+enum outcome replace_check(const char *path, bool exists)
+{
+    struct replacement replacement;
+    enum outcome outcome = find_names(&replacement, path, exists);
+
+    if (outcome == DONE && access(replacement.folder, W_OK | X_OK) != 0)
+        outcome = tell_errno(path, "not written, no temporary file can be made in its folder");
+    free_names(&replacement);
     return outcome;
 }

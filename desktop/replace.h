@@ -4,6 +4,7 @@
 
 #include "tell.h"
 
+#include <stdbool.h>
 #include <stddef.h>
 #include <stdint.h>
 #include <sys/stat.h>
@@ -20,5 +21,8 @@
  * written; one that comes later is held until the program ends, so that what was done is told.
  */
 enum outcome replace_file(const char *path, const struct stat *old, const uint8_t *bytes, size_t size);
+
+/* Whether a temporary file could be made in its folder now, by the folder's rights; if not, that is told. */
+enum outcome replace_check(const char *path, bool exists);
 
 #endif

@@ -4,19 +4,6 @@
 #include "summary.h"
 #include "table.h"
 
-#include <stdio.h>
-
-static void print_table(const struct image *image, const struct comparison *comparison)
-{
-    if (comparison->different == 0) {
-        printf("table true before\n");
-        return;
-    }
-    printf("table not true before: ");
-    table_print_difference(stdout, image, comparison);
-    printf("\n");
-}
-
 /* A file whose table is true is left alone; another one is written whatever the table was. */
 static enum outcome replay(struct edit *edit)
 {
@@ -29,7 +16,7 @@ static enum outcome replay(struct edit *edit)
         outcome = summary_print(&edit->image, comparison.last);
     if (outcome != DONE)
         return outcome;
-    print_table(&edit->image, &comparison);
+    table_print(&edit->image, &comparison, "before");
     return edit_tell(edit);
 }
 

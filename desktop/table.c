@@ -43,6 +43,31 @@ enum outcome table_replay(const struct image *image, struct comparison *comparis
     return status == HSC_DONE ? DONE : tell_refusal(image->path, status);
 }
 
+void table_exchange(const struct image *image, uint8_t *table, struct comparison *comparison)
+{
+    for (uint32_t j = 0; j < image->snapshots; j++) {
+        uint8_t *one = image_snapshot(image, j);
+        uint8_t *other = table + (size_t)j * HSC_SNAPSHOT_SIZE;
+        uint8_t snapshot[HSC_SNAPSHOT_SIZE];
+
+        memcpy(snapshot, one, HSC_SNAPSHOT_SIZE);
+        memcpy(one, other, HSC_SNAPSHOT_SIZE);
+        memcpy(other, snapshot, HSC_SNAPSHOT_SIZE);
+    }
+    compare(image, table, (size_t)image->snapshots * HSC_SNAPSHOT_SIZE, comparison);
+}
+
+void table_print(const struct image *image, const struct comparison *comparison, const char *when)
+{
+    if (comparison->different == 0) {
+        printf("table true %s\n", when);
+        return;
+    }
+    printf("table not true %s: ", when);
+    table_print_difference(stdout, image, comparison);
+    printf("\n");
+}
+
 void table_print_difference(FILE *stream, const struct image *image, const struct comparison *comparison)
 {
     fprintf(stream, "snapshot %" PRIu32 " differs first, %" PRIu32 " of %" PRIu32 " differ", comparison->first,

@@ -19,6 +19,15 @@ struct comparison {
 /* Replays the image in memory and compares the table it had. Replay's refusals are told, and leave the image. */
 enum outcome table_replay(const struct image *image, struct comparison *comparison);
 
+/*
+ * Exchanges the image's table for this one, which is what replay writes, and compares the two. The last state of the
+ * comparison stays.
+ */
+void table_exchange(const struct image *image, uint8_t *table, struct comparison *comparison);
+
+/* Prints a line: whether the table was true when the words say, and if not, what differs. */
+void table_print(const struct image *image, const struct comparison *comparison, const char *when);
+
 /* Prints which snapshot differs first and how many do; not for a true table. No line end. */
 void table_print_difference(FILE *stream, const struct image *image, const struct comparison *comparison);
 

@@ -12,14 +12,49 @@ enum outcome target_open_existing(struct target *target, const char *path)
     return lock_open(&target->file, path);
 }
 
-enum outcome target_open(struct target *target, const char *path)
+/* Something stands there, or cannot be looked at. */
+static bool exists(const char *path)
 {
     struct stat status;
 
-    if (stat(path, &status) == 0 || errno != ENOENT)
+    return stat(path, &status) == 0 || errno != ENOENT;
+}
+
+enum outcome target_open(struct target *target, const char *path)
+{
+    if (exists(path))
         return target_open_existing(target, path);
     *target = (struct target){.path = path};
     return DONE;
+}
+
+/* Opens what stands there, without its lock. */
+static enum outcome check_existing(const char *path)
+{
+    struct file file;
+    enum outcome outcome = file_open_writable(&file, path);
+
+    if (outcome == DONE)
+        file_close(&file);
+    return outcome;
+}
+
+/* No file can get an empty name, or that of a link which leads to none. */
+static enum outcome check_name(const char *path)
+{
+    struct stat status;
+
+    if (*path == '\0' || lstat(path, &status) == 0)
+        return tell_failure(path, "no file of this name can be made");
+    return DONE;
+}
+
+enum outcome target_check(const char *path)
+{
+    bool there = exists(path);
+    enum outcome outcome = there ? check_existing(path) : check_name(path);
+
+    return outcome == DONE ? replace_check(path, there) : outcome;
 }
 
 enum outcome target_write(const struct target *target, const uint8_t *bytes, size_t size)

@@ -21,6 +21,9 @@ enum outcome target_open_existing(struct target *target, const char *path);
 /* A file that is replaced, or made where there is none. Where it is done, target_close is owed. */
 enum outcome target_open(struct target *target, const char *path);
 
+/* Whether a file could be written there now, as far as that can be told without one; if not, that is told. */
+enum outcome target_check(const char *path);
+
 /* Puts the bytes there, as replace_file does. */
 enum outcome target_write(const struct target *target, const uint8_t *bytes, size_t size);
 

@@ -2,21 +2,42 @@
 #include "tell.h"
 
 #include "hsc.h"
+#include "words.h"
 
 #include <errno.h>
 #include <inttypes.h>
 #include <stdio.h>
 #include <string.h>
 
+/* A line of progress stands on the terminal, and is not ended. */
+static bool line_is_open;
+
+void tell_progress(const char *text)
+{
+    fprintf(stderr, "\r%s", text);
+    line_is_open = true;
+}
+
+void tell_progress_end(void)
+{
+    if (line_is_open)
+        fprintf(stderr, "\n");
+    line_is_open = false;
+}
+
 enum outcome tell_failure(const char *subject, const char *reason)
 {
+    tell_progress_end();
     fprintf(stderr, "hsc: %s: %s\n", subject, reason);
     return FAILED;
 }
 
 enum outcome tell_errno(const char *subject, const char *action)
 {
-    fprintf(stderr, "hsc: %s: %s: %s\n", subject, action, strerror(errno));
+    int error = errno;
+
+    tell_progress_end();
+    fprintf(stderr, "hsc: %s: %s: %s\n", subject, action, strerror(error));
     return FAILED;
 }
 
@@ -64,11 +85,26 @@ static const char *refusal_words(uint32_t number)
     }
 }
 
-enum outcome tell_refusal(const char *subject, uint64_t status)
+/* No line end. */
+static void print_refusal(const char *subject, uint64_t status)
 {
     uint32_t number = hsc_number(status);
 
-    fprintf(stderr, "hsc: %s: refused %" PRIu32 " at %" PRIu32 ": %s\n", subject, number, hsc_place(status),
+    tell_progress_end();
+    fprintf(stderr, "hsc: %s: refused %" PRIu32 " at %" PRIu32 ": %s", subject, number, hsc_place(status),
             refusal_words(number));
+}
+
+enum outcome tell_refusal(const char *subject, uint64_t status)
+{
+    print_refusal(subject, status);
+    fprintf(stderr, "\n");
+    return REFUSED;
+}
+
+enum outcome tell_refusal_after(const char *subject, uint64_t status, size_t bytes, bool ended)
+{
+    print_refusal(subject, status);
+    fprintf(stderr, "; %s after %zu byte%s\n", ended ? "ended" : "seen", bytes, plural(bytes));
     return REFUSED;
 }

@@ -2,6 +2,8 @@
 #ifndef TELL_H
 #define TELL_H
 
+#include <stdbool.h>
+#include <stddef.h>
 #include <stdint.h>
 
 /* How a command ends; the program's exit status. */
@@ -27,5 +29,14 @@ enum outcome tell_no_such(const char *path, const char *thing, uint64_t index, u
 
 /* Tells a refusal in words, with its number and place, and answers REFUSED. */
 enum outcome tell_refusal(const char *subject, uint64_t status);
+
+/* The same of a stream, with how many of its bytes had come then. ended: no more of them came. */
+enum outcome tell_refusal_after(const char *subject, uint64_t status, size_t bytes, bool ended);
+
+/* Writes the text over the one that was written so last, on a terminal. Whatever is told next stands below it. */
+void tell_progress(const char *text);
+
+/* Ends the line of progress, if there is one, so that other lines stand below it. */
+void tell_progress_end(void);
 
 #endif

@@ -1,5 +1,5 @@
 /*
- * hsc.h: the trace of a high-speed counter, checked, stepped, drawn, replayed, mended and compared.
+ * hsc.h: the trace of a high-speed counter, checked, stepped, drawn, replayed, mended, compared and received.
  *
  * The calls take numbers and lent buffers and keep nothing from one call to the next. All numbers in the buffers are
  * little-endian.
@@ -29,12 +29,13 @@
  * The version of this header: in words, and as one number, major * 10000 + minor * 100 + patch. A program compares the
  * number with hsc_version() at its start, to see that header and archive belong together.
  */
-#define HSC_VERSION "0.5.0"
-#define HSC_VERSION_NUMBER 500
+#define HSC_VERSION "0.6.0"
+#define HSC_VERSION_NUMBER 600
 
 #define HSC_HEADER_SIZE 24
 #define HSC_EVENT_SIZE 12
 #define HSC_SNAPSHOT_SIZE 68
+#define HSC_READER_SIZE 116
 
 /* The most events of an image, and the widest spacing of its snapshots. */
 #define HSC_MAX_EVENTS 1048576
@@ -54,7 +55,8 @@ enum hsc_refusal {
     HSC_REFUSED_PATCH = 7,       /* patch length not a multiple of 12, or first + n > E; place 0 */
     HSC_REFUSED_PATCH_EVENT = 8, /* illegal event in the patch; place: the first such, in the patch */
     HSC_REFUSED_SIZE = 9,        /* snapshot not 68 bytes, event not 12, events not a multiple of 12, a trace of more
-                                    than 1048576 events, or a row that has not one number for each event; place 0 */
+                                    than 1048576 events, a row that has not one number for each event, or a reader that
+                                    is not well formed; place 0 */
     HSC_REFUSED_ROW = 12,        /* the row has no room for all differences; place 0 */
     HSC_REFUSAL_COUNT = 13       /* no call gives 10 or 11 */
 };
@@ -211,7 +213,10 @@ static inline uint32_t hsc_place(uint64_t status)
 /* The version of the archive, as HSC_VERSION_NUMBER is that of the header. */
 uint32_t hsc_version(void);
 
-/* The calls that answer a status answer 0 where they are done. On a refusal every lent buffer is as it was. */
+/*
+ * The calls that answer a status answer 0 where they are done. On a refusal every lent buffer is as it was, but for a
+ * reader, which remembers each refusal but 9.
+ */
 
 /*
  * Whether the event is legal: 1 yes, 0 no, 9 (HSC_REFUSED_SIZE) if it is not 12 bytes. Writes nothing.
@@ -282,6 +287,34 @@ uint32_t hsc_rest(const uint8_t *first, size_t first_len, const uint8_t *second,
  * refused: any bytes of any lengths will do. Mending compares snapshots by the same function.
  */
 uint64_t hsc_first_difference(const uint8_t *first, size_t first_len, const uint8_t *second, size_t second_len);
+
+/*
+ * A trace that comes in chunks, cut anywhere. What was received so far stands in a lent reader, whose bytes are the
+ * library's own: the caller may keep and copy them, and other bytes are refused by 9.
+ *
+ * Makes a reader of an image of which nothing came.
+ */
+void hsc_reader_new(uint8_t reader[HSC_READER_SIZE]);
+
+/*
+ * Takes bytes of the chunk until the next snapshot's place is reached (the header's last byte, the last byte of event
+ * jK - 1) or the chunk is used up. taken becomes the number of bytes taken, and 1 if the buffer of 68 bytes now holds
+ * that snapshot, else 0 and the buffer as it was: as long as it is 1, the rest of the chunk is fed again. An empty
+ * chunk is taken. The table that the sender appends is passed over unread; the snapshots are those that replay writes.
+ * Refusals, by the first byte at which one can be told: 9 at place 0; 2, 3 with the header's last byte; 5 with the
+ * event's last byte, by its place; 4 at place 0 for a byte too many. Each but 9 stays in the reader, and every later
+ * call gives it.
+ */
+uint64_t hsc_reader_feed(uint8_t reader[HSC_READER_SIZE], const uint8_t *chunk, size_t chunk_len, uint8_t *buffer,
+                         size_t buffer_len, uint64_t taken[2]);
+
+/*
+ * Takes the sender's end, and writes the final state into the buffer of 68 bytes, as a snapshot. Told again it answers
+ * the same.
+ * Refusals: 9 at place 0; the one that stays in the reader; 1 if the header is not whole; 4 at place 0 if other bytes
+ * are missing. Each but 9 stays in the reader.
+ */
+uint64_t hsc_reader_end(uint8_t reader[HSC_READER_SIZE], uint8_t *buffer, size_t buffer_len);
 
 #ifdef __cplusplus
 }

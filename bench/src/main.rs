@@ -1,9 +1,11 @@
 //! The library and the model side by side on the same inputs, in one run: replay, mending,
-//! the image's check and single steps over a full night, the night drawn, two nights compared, and
-//! the first difference of two parts of bytes, also beside memcmp. It asserts results, never times.
+//! the image's check and single steps over a full night, the night read in chunks, also beside
+//! replay, the night drawn, two nights compared, and the first difference of two parts of bytes,
+//! also beside memcmp. It asserts results, never times.
 
 mod night;
 mod parts;
+mod reading;
 mod timing;
 
 use std::cell::Cell;
@@ -62,6 +64,8 @@ fn images(spacing: usize) {
     let mut replayed = image.clone();
     assert_eq!(Model.replay(&mut replayed, &mut [0; SIZE]), 0);
     assert!(image == replayed, "the table is not true");
+
+    reading::chunks(&mut image);
 }
 
 fn steps() {
@@ -144,7 +148,11 @@ fn main() {
     println!("buffers are warm: both sides work on one image, and each ran once before the timing;");
     println!("what the caches do not hold of it comes from memory on both sides; two parts of bytes each");
     println!(
-        "begin at a multiple of 64; where each last byte differs, it is made to before each mend, untimed"
+        "begin at a multiple of 64; where each last byte differs, it is made to before each mend, untimed;"
+    );
+    println!(
+        "1-byte chunks are of an image of the night's first {} events; replay is the library's",
+        reading::FIRST_EVENTS
     );
     for spacing in [1, 64, 4096] {
         images(spacing);

@@ -61,3 +61,8 @@ pub fn copy(differs: fn(u32) -> bool) -> Vec<Bytes> {
 pub fn image(spacing: usize) -> Vec<u8> {
     image::image(&events(), spacing)
 }
+
+/// The same of the night's first events.
+pub fn first(count: usize, spacing: usize) -> Vec<u8> {
+    image::image(&events()[..count], spacing)
+}

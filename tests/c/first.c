@@ -1,6 +1,6 @@
 /* Calls the library as the depot's program does: a fresh snapshot is stepped and read back, mode 7 is reset, an image is
- * replayed and mended, two traces are compared, events are drawn, two tables are told apart by their bytes, and refusals are met.
- * One line for each check; the first that fails ends the run with status 1.
+ * replayed and mended, two traces are compared, events are drawn, two tables are told apart by their bytes, an image is taken in
+ * chunks, and refusals are met. One line for each check; the first that fails ends the run with status 1.
  *
  *   rt staticlib hsc
  *   cc -std=c11 -Wall -Wextra -Werror -pedantic -I include tests/c/first.c target/staticlib/libhsc.a -o target/first
@@ -445,6 +445,124 @@ static void differences(void) {
     check_difference("and leaves no difference", one, other, IMAGE - TABLE);
 }
 
+/* What is kept of an image that comes in chunks: the snapshots that the reader gives. */
+struct receiver {
+    uint8_t reader[HSC_READER_SIZE];
+    uint8_t table[IMAGE - TABLE];
+    size_t snapshots;
+};
+
+/* Takes a chunk whole, or up to a refusal: what follows a snapshot's place is fed again. */
+static uint64_t receive(struct receiver *receiver, const uint8_t *chunk, size_t len) {
+    while (len > 0) {
+        uint8_t snapshot[HSC_SNAPSHOT_SIZE];
+        uint64_t taken[2];
+        uint64_t status = hsc_reader_feed(receiver->reader, chunk, len, snapshot, sizeof snapshot, taken);
+        if (status != 0) {
+            return status;
+        }
+        if (taken[1] == 1) {
+            memcpy(receiver->table + HSC_SNAPSHOT_SIZE * receiver->snapshots++, snapshot, sizeof snapshot);
+        }
+        chunk += taken[0];
+        len -= (size_t)taken[0];
+    }
+    return 0;
+}
+
+/* Takes bytes in chunks of so many, the last one shorter, up to the first refusal. */
+static uint64_t receive_all(struct receiver *receiver, struct trace bytes, size_t chunk_len) {
+    uint64_t status = 0;
+    memset(receiver, 0x5a, sizeof *receiver);
+    receiver->snapshots = 0;
+    hsc_reader_new(receiver->reader);
+    for (size_t at = 0; status == 0 && at < bytes.len; at += chunk_len) {
+        status = receive(receiver, bytes.bytes + at, bytes.len - at < chunk_len ? bytes.len - at : chunk_len);
+    }
+    return status;
+}
+
+/* The end, told twice: the same answer and the same state. */
+static uint64_t end_of(struct receiver *receiver, uint8_t last[HSC_SNAPSHOT_SIZE]) {
+    uint8_t again[HSC_SNAPSHOT_SIZE];
+    memset(last, 0x5a, HSC_SNAPSHOT_SIZE);
+    memcpy(again, last, sizeof again);
+    uint64_t status = hsc_reader_end(receiver->reader, last, HSC_SNAPSHOT_SIZE);
+    check("the end told again answers the same", hsc_reader_end(receiver->reader, again, sizeof again) == status &&
+                                                     memcmp(last, again, sizeof again) == 0);
+    return status;
+}
+
+/* The refusal of a chunk or of the end, and of every call after it; the buffer and what was taken are as they were. */
+static void check_unreceived(const char *what, uint32_t number, uint32_t place, struct trace bytes, size_t chunk_len) {
+    struct receiver receiver;
+    uint8_t last[HSC_SNAPSHOT_SIZE], before[HSC_SNAPSHOT_SIZE];
+    uint64_t taken[2] = {KEPT, KEPT};
+    uint64_t status = receive_all(&receiver, bytes, chunk_len);
+    uint64_t ended = end_of(&receiver, last);
+    memset(before, 0x5a, sizeof before);
+    check(what, hsc_number(ended) == number && hsc_trace(ended) == 0 && hsc_place(ended) == place &&
+                    (status == 0 || status == ended));
+    check("a chunk after it is refused likewise, an empty one too",
+          hsc_reader_feed(receiver.reader, bytes.bytes, 1, last, sizeof last, taken) == ended &&
+              hsc_reader_feed(receiver.reader, bytes.bytes, 0, last, sizeof last, taken) == ended);
+    check("and leaves all", memcmp(last, before, sizeof last) == 0 && taken[0] == KEPT && taken[1] == KEPT);
+}
+
+static void receptions(void) {
+    const size_t lengths[] = {1, 11, 12, 24, 25, 100, IMAGE};
+    uint8_t image[IMAGE + 1], expected[IMAGE], last[HSC_SNAPSHOT_SIZE], before[HSC_READER_SIZE];
+    struct receiver receiver;
+    uint64_t taken[2] = {KEPT, KEPT};
+    image_of(image, 7);
+    image[IMAGE] = 0;
+    stepped(expected, 7);
+    const struct trace whole = {image, IMAGE}, longer = {image, IMAGE + 1}, cut = {image, IMAGE - 1};
+    const struct trace short_one = {image, HSC_HEADER_SIZE - 1}, event_cut = {image, TABLE - 1}, none = {image, 0};
+
+    for (size_t i = 0; i < sizeof lengths / sizeof *lengths; i++) {
+        check("an image in chunks is taken", receive_all(&receiver, whole, lengths[i]) == 0);
+        check("its snapshots are those of a replay, and not the sender's",
+              receiver.snapshots == SNAPSHOTS && memcmp(receiver.table, expected + TABLE, IMAGE - TABLE) == 0);
+        check("its end is good", end_of(&receiver, last) == 0);
+        check("and gives the final state", memcmp(last, expected + IMAGE - sizeof last, sizeof last) == 0);
+    }
+    check("an empty chunk after the end is taken",
+          hsc_reader_feed(receiver.reader, image, 0, last, sizeof last, taken) == 0 && taken[0] == 0 && taken[1] == 0);
+
+    hsc_reader_new(receiver.reader);
+    memset(last, 0x5a, sizeof last);
+    check("a chunk without a snapshot's place leaves the buffer",
+          hsc_reader_feed(receiver.reader, image, 10, last, sizeof last, taken) == 0 && taken[0] == 10 && taken[1] == 0 &&
+              last[0] == 0x5a);
+    memcpy(before, receiver.reader, sizeof before);
+    check("a buffer of 67 bytes is refused by 9, of a chunk and of the end",
+          hsc_reader_feed(receiver.reader, image, 1, last, 67, taken) == 9 && hsc_reader_end(receiver.reader, last, 67) == 9);
+    check("and the reader is as it was", memcmp(receiver.reader, before, sizeof before) == 0 && taken[0] == 10);
+    check("the next chunk stops at snapshot 0's place",
+          hsc_reader_feed(receiver.reader, image + 10, IMAGE - 10, last, sizeof last, taken) == 0 &&
+              taken[0] == HSC_HEADER_SIZE - 10 && taken[1] == 1 && memcmp(last, expected + TABLE, sizeof last) == 0);
+    memset(receiver.reader, 0xff, sizeof receiver.reader);
+    check("a reader that no call left is refused by 9", hsc_reader_end(receiver.reader, last, sizeof last) == 9);
+
+    check_unreceived("no byte: ended under 24 bytes, 1", 1, 0, none, 1);
+    check_unreceived("ended within the header, 1", 1, 0, short_one, 10);
+    check_unreceived("ended within an event, 4", 4, 0, event_cut, 10);
+    check_unreceived("ended a byte early, 4", 4, 0, cut, 100);
+    check_unreceived("a byte too many, 4", 4, 0, longer, IMAGE + 1);
+    check_unreceived("a byte too many after the last, 4", 4, 0, longer, IMAGE);
+    image[HSC_HEADER_SIZE + HSC_EVENT_SIZE + 2] = 1;
+    check_unreceived("an illegal event, 5 at its place", 5, 1, whole, 7);
+    check_unreceived("it goes before a length that is wrong", 5, 1, cut, IMAGE);
+    check_unreceived("but not if it is cut off", 4, 0, event_cut, IMAGE);
+    image[HSC_HEADER_SIZE - 1] = 1;
+    check_unreceived("a sixth number that is not 0, 2", 2, 0, whole, 9);
+    image[4] = 25;
+    check_unreceived("2 goes before 3", 2, 0, whole, 1);
+    image[HSC_HEADER_SIZE - 1] = 0;
+    check_unreceived("an event offset that is not 24, 3", 3, 0, whole, IMAGE);
+}
+
 static void version(void) {
     check("header and archive are of one version", hsc_version() == HSC_VERSION_NUMBER);
 }
@@ -461,5 +579,6 @@ int main(void) {
     rests();
     drawings();
     differences();
+    receptions();
     return 0;
 }

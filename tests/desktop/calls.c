@@ -1,4 +1,4 @@
-/* The ten calls through the header, as C and as C++: each done and refused, with guard bytes behind what is lent. */
+/* The thirteen calls through the header, as C and C++: each done and refused, with guard bytes behind what is lent. */
 #include "hsc.h"
 
 #include <stdio.h>
@@ -149,6 +149,44 @@ static void check_difference(void)
     expect(hsc_first_difference(first, 0, second, 0) == 0, "nor do two empty ones");
 }
 
+static void check_reader(const uint8_t image[IMAGE_SIZE])
+{
+    const uint8_t *table = image + HSC_HEADER_SIZE + 2 * HSC_EVENT_SIZE;
+    const uint8_t bad[HSC_EVENT_SIZE] = {HSC_KIND_COUNT};
+    uint8_t reader[HSC_READER_SIZE + 1];
+    uint8_t before[HSC_READER_SIZE + 1];
+    uint8_t buffer[HSC_SNAPSHOT_SIZE + 1];
+    uint64_t taken[3] = {40, 41, 42};
+
+    memset(reader, GUARD, sizeof reader);
+    memset(buffer, GUARD, sizeof buffer);
+    hsc_reader_new(reader);
+    memcpy(before, reader, sizeof before);
+    expect(hsc_reader_feed(reader, image, 24, buffer, 67, taken) == refusal(9, 0), "feeding refuses 67 bytes");
+    expect(hsc_reader_end(reader, buffer, 69) == refusal(9, 0), "the end refuses 69 bytes");
+    expect(memcmp(reader, before, sizeof reader) == 0 && taken[0] == 40 && buffer[0] == GUARD, "9 leaves all");
+    expect(hsc_reader_feed(reader, image, 23, buffer, 68, taken) == HSC_DONE, "a part of the header is fed");
+    expect(taken[0] == 23 && taken[1] == 0 && buffer[0] == GUARD, "it is taken, and the buffer stays");
+    expect(hsc_reader_feed(reader, image + 23, IMAGE_SIZE - 23, buffer, 68, taken) == HSC_DONE, "the rest is fed");
+    expect(taken[0] == 1 && taken[1] == 1 && memcmp(buffer, table, 68) == 0, "snapshot 0 comes with the header");
+    memcpy(before, reader, sizeof before);
+    expect(hsc_reader_feed(reader, bad, sizeof bad, buffer, 68, taken) == refusal(5, 0), "5 has its place");
+    expect(hsc_reader_end(reader, buffer, 68) == refusal(5, 0), "a refusal is remembered");
+    memcpy(reader, before, sizeof reader);
+    expect(hsc_reader_feed(reader, image + 24, 12, buffer, 68, taken) == HSC_DONE, "a reader can be copied");
+    expect(taken[0] == 12 && taken[1] == 1 && memcmp(buffer, table + 68, 68) == 0, "snapshot 1 comes after event 0");
+    expect(hsc_reader_feed(reader, image + 36, 12, buffer, 68, taken) == HSC_DONE, "event 1 is fed");
+    expect(hsc_reader_feed(reader, image + 48, 3 * 68, buffer, 68, taken) == HSC_DONE, "the table is fed");
+    expect(taken[0] == 3 * 68 && taken[1] == 0, "it is passed over");
+    memset(buffer, GUARD, 68);
+    expect(hsc_reader_end(reader, buffer, 68) == HSC_DONE, "the end is good");
+    expect(memcmp(buffer, table + 2 * 68, 68) == 0, "it gives the final state");
+    expect(hsc_reader_feed(reader, image, 1, buffer, 68, taken) == refusal(4, 0), "a byte more is one too many");
+    expect(reader[HSC_READER_SIZE] == GUARD && buffer[68] == GUARD && taken[2] == 42, "no more is written");
+    memset(reader, GUARD, sizeof reader);
+    expect(hsc_reader_end(reader, buffer, 68) == refusal(9, 0), "bytes that are no reader are refused");
+}
+
 /* The operand is the path of the image of two events. */
 int main(int count, char **words)
 {
@@ -167,5 +205,6 @@ int main(int count, char **words)
     check_image(image);
     check_traces();
     check_difference();
+    check_reader(image);
     return failures == 0 ? 0 : 1;
 }

@@ -11,6 +11,7 @@
  */
 #include <errno.h>
 #include <fcntl.h>
+#include <poll.h>
 #include <signal.h>
 #include <stdbool.h>
 #include <stdio.h>
@@ -121,6 +122,7 @@ static bool fault(const char *call)
         return fault(#name) ? failure : __real_##name arguments; \
     }
 
+FAULTY(int, access, (const char *path, int mode), (path, mode), -1)
 FAULTY(int, close, (int descriptor), (descriptor), -1)
 FAULTY(int, fchmod, (int descriptor, mode_t mode), (descriptor, mode), -1)
 FAULTY(int, fchown, (int descriptor, uid_t owner, gid_t group), (descriptor, owner, group), -1)
@@ -134,6 +136,7 @@ FAULTY(void *, malloc, (size_t size), (size), NULL)
 FAULTY(int, mkstemp, (char *path), (path), -1)
 FAULTY(int, open, (const char *path, int flags), (path, flags), -1)
 FAULTY(FILE *, open_memstream, (char **text, size_t *size), (text, size), NULL)
+FAULTY(int, poll, (struct pollfd * set, nfds_t count, int wait), (set, count, wait), -1)
 FAULTY(ssize_t, read, (int descriptor, void *bytes, size_t size), (descriptor, bytes, short_moves ? 1 : size), -1)
 FAULTY(char *, realpath, (const char *path, char *resolved), (path, resolved), NULL)
 FAULTY(int, rename, (const char *from, const char *to), (from, to), -1)

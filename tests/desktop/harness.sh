@@ -33,6 +33,13 @@ no_temporary() {
 # The command that runs the program: it itself, or another user's.
 user=
 
+# What user can be, so that the program is not run by root; false where there is no such command.
+nobody=
+if [ "$(id -u)" -eq 0 ]; then
+    nobody='setpriv --reuid=65534 --regid=65534 --clear-groups'
+    $nobody true 2> /dev/null || nobody=false
+fi
+
 # try STATUS WORD..: runs the program, expects the exit status.
 try() {
     try_want=$1
@@ -79,6 +86,13 @@ same() {
 # zeros SIZE
 zeros() {
     head -c "$1" /dev/zero
+}
+
+# from FILE COMMAND..: runs the command with the file as standard input.
+from() {
+    from_file=$1
+    shift
+    "$@" < "$from_file"
 }
 
 # faulty CALL:N:HOW COMMAND..: runs the command while that call of the program goes wrong (fault.c).

@@ -40,6 +40,16 @@ extern "C" {
         row_len: usize,
     ) -> u64;
     fn hsc_first_difference(first: *const u8, first_len: usize, second: *const u8, second_len: usize) -> u64;
+    fn hsc_reader_new(reader: *mut u8);
+    fn hsc_reader_feed(
+        reader: *mut u8,
+        chunk: *const u8,
+        chunk_len: usize,
+        buffer: *mut u8,
+        buffer_len: usize,
+        taken: *mut u64,
+    ) -> u64;
+    fn hsc_reader_end(reader: *mut u8, buffer: *mut u8, buffer_len: usize) -> u64;
 }
 
 pub struct Archive;
@@ -103,5 +113,32 @@ impl Subject for Archive {
 
     fn first_difference(&self, first: &[u8], second: &[u8]) -> u64 {
         unsafe { hsc_first_difference(first.as_ptr(), first.len(), second.as_ptr(), second.len()) }
+    }
+
+    fn reader_new(&self, reader: &mut [u8; 116]) {
+        unsafe { hsc_reader_new(reader.as_mut_ptr()) }
+    }
+
+    fn reader_feed(
+        &self,
+        reader: &mut [u8; 116],
+        chunk: &[u8],
+        buffer: &mut [u8],
+        taken: &mut [u64; 2],
+    ) -> u64 {
+        unsafe {
+            hsc_reader_feed(
+                reader.as_mut_ptr(),
+                chunk.as_ptr(),
+                chunk.len(),
+                buffer.as_mut_ptr(),
+                buffer.len(),
+                taken.as_mut_ptr(),
+            )
+        }
+    }
+
+    fn reader_end(&self, reader: &mut [u8; 116], buffer: &mut [u8]) -> u64 {
+        unsafe { hsc_reader_end(reader.as_mut_ptr(), buffer.as_mut_ptr(), buffer.len()) }
     }
 }

@@ -1,4 +1,4 @@
-//! The nine calls, for the model and for whatever is run against it.
+//! The twelve calls, for the model and for whatever is run against it.
 
 use crate::model;
 
@@ -12,6 +12,15 @@ pub trait Subject {
     fn rest(&self, first: &[u8], second: &[u8], part: &mut [u64; 2]) -> u32;
     fn draw(&self, snapshot: &mut [u8], events: &[u8], row: &mut [i32]) -> u64;
     fn first_difference(&self, first: &[u8], second: &[u8]) -> u64;
+    fn reader_new(&self, reader: &mut [u8; 116]);
+    fn reader_feed(
+        &self,
+        reader: &mut [u8; 116],
+        chunk: &[u8],
+        buffer: &mut [u8],
+        taken: &mut [u64; 2],
+    ) -> u64;
+    fn reader_end(&self, reader: &mut [u8; 116], buffer: &mut [u8]) -> u64;
 }
 
 pub struct Model;
@@ -51,6 +60,24 @@ impl Subject for Model {
 
     fn first_difference(&self, first: &[u8], second: &[u8]) -> u64 {
         model::first_difference(first, second)
+    }
+
+    fn reader_new(&self, reader: &mut [u8; 116]) {
+        model::reader_new(reader)
+    }
+
+    fn reader_feed(
+        &self,
+        reader: &mut [u8; 116],
+        chunk: &[u8],
+        buffer: &mut [u8],
+        taken: &mut [u64; 2],
+    ) -> u64 {
+        model::reader_feed(reader, chunk, buffer, taken)
+    }
+
+    fn reader_end(&self, reader: &mut [u8; 116], buffer: &mut [u8]) -> u64 {
+        model::reader_end(reader, buffer)
     }
 }
 

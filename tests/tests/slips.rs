@@ -1,6 +1,11 @@
 //! Each wrong subject is caught by the same cases that the archive passes.
 
-use hsc_tests::harness::{self, slip::Slip};
+use std::cell::Cell;
+
+use hsc_tests::harness::{
+    self,
+    slip::{Reading, Slip},
+};
 
 #[test]
 fn every_slip_is_caught() {
@@ -24,5 +29,35 @@ fn demand_3_alone_catches_wrong_mends() {
     ] {
         let caught = harness::run_demand_3(&slip, 1, 0..20_000);
         assert!(caught.is_err(), "{slip:?} passes");
+    }
+}
+
+/// These wrong readers are caught by two cuttings of the same bytes alone.
+#[test]
+fn two_cuttings_alone_catch_wrong_readers() {
+    for rule in [
+        Reading::OneEventLate,
+        Reading::TakesPast,
+        Reading::CountsChunk,
+        Reading::LooksAhead,
+        Reading::LastKept,
+        Reading::LengthFirst,
+        Reading::BufferWritten,
+        Reading::RefusalTakes,
+        Reading::Remembers9,
+        Reading::RememberedBefore9,
+        Reading::ForgetsChunk,
+        Reading::ForgetsEnd,
+        Reading::PlaceForgotten,
+        Reading::EndOnce(Cell::new(0)),
+        Reading::EmptyRefused,
+        Reading::EmptyHolds,
+        Reading::TableRead,
+        Reading::EventLeft,
+        Reading::StateLeft,
+    ] {
+        let slip = Slip::Read(rule);
+        let failure = harness::run_cuttings(&slip, 1, 0..2_000).err();
+        println!("{slip:?}: {}", failure.unwrap_or_else(|| panic!("{slip:?} passes")));
     }
 }

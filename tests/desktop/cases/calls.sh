@@ -14,8 +14,8 @@ else
     skip 'no C++ compiler'
 fi
 
-verdict 'the archive has the ten calls' [ "$(nm -g --defined-only "$archive" 2> /dev/null |
-    grep -c -E ' T hsc_(version|event_check|step|draw|read|replay|mend|compare|rest|first_difference)$')" -eq 10 ]
+verdict 'the archive has the thirteen calls' [ "$(nm -g --defined-only "$archive" 2> /dev/null |
+    grep -c -E ' T hsc_(version|event_check|step|draw|read|replay|mend|compare|rest|first_difference|reader_(new|feed|end))$')" -eq 13 ]
 
 # The examples are what their script writes.
 cp "$root"/examples/make "$root"/examples/image.sh .

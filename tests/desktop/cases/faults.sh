@@ -14,6 +14,9 @@ writes() {
     written=$1 old=$2 new=$3
 }
 
+# What the commands have for standard input.
+input=/dev/null
+
 # prepare: the files as they are before a command, and no temporary file.
 prepare() {
     rm -f .hsc-* other.trace made.*
@@ -42,7 +45,7 @@ one_fault() {
     status=0
     one_how=$1
     shift
-    FAULT=$call:$count:$one_how "$PROGRAM" "$@" > out 2> err || status=$?
+    FAULT=$call:$count:$one_how "$PROGRAM" "$@" < "$input" > out 2> err || status=$?
     verdict "hsc $*, $call $count: $one_how: $written is whole" whole
 }
 
@@ -52,7 +55,7 @@ one_fault() {
 each_fault() {
     prepare
     rm -f calls
-    FAULT_CALLS=calls "$PROGRAM" "$@" > out 2> err
+    FAULT_CALLS=calls "$PROGRAM" "$@" < "$input" > out 2> err
     verdict "hsc $*: done" [ $? -eq 0 ]
     cat calls >> made
     for call in $(sort -u calls); do
@@ -88,6 +91,11 @@ writes made.trace none nine.trace
 each_fault build two.text 1 made.trace
 writes made.trace words.trace new.trace
 each_fault build two.events 1 made.trace
+input=old.trace
+each_fault receive made.trace
+writes made.trace none new.trace
+each_fault receive made.trace -
+input=/dev/null
 for call in $FAULTY; do
     verdict "a writer calls $call" grep -q -x "$call" made
 done
@@ -131,6 +139,34 @@ fails sigaction:2:EIO 'not written, signals cannot be held: Input/output error'
 fails sigpending:1:EIO 'not written, a signal came first'
 fails rename:1:ENOSPC 'not written, its temporary file cannot be given its name: No space left on device'
 
+# receive_fails CALL:N:ERRNO TEXT: so does receive, and leaves OUT.
+receive_fails() {
+    cp words.trace made.trace
+    keep made.trace faulty "$1" from old.trace try 2 receive made.trace
+    says err "$2"
+    verdict 'nothing on standard output' [ ! -s out ]
+}
+
+receive_fails open:2:EACCES 'made.trace: cannot be opened: Permission denied'
+receive_fails open:3:EACCES 'made.trace: cannot be opened: Permission denied'
+receive_fails malloc:1:ENOMEM 'made.trace: not written, no memory for its path: Cannot allocate memory'
+receive_fails access:1:EROFS 'made.trace: not written, no temporary file can be made in its folder: Read-only file system'
+receive_fails fstat:2:EIO 'standard input: status cannot be read: Input/output error'
+receive_fails poll:1:ENOMEM 'standard input: cannot be waited for: Cannot allocate memory'
+receive_fails read:1:EIO 'standard input: cannot be read: Input/output error'
+receive_fails read:2:EIO 'standard input: cannot be read: Input/output error'
+receive_fails malloc:3:ENOMEM 'standard input: no memory for the image: Cannot allocate memory'
+receive_fails malloc:4:ENOMEM 'standard input: no memory for the table: Cannot allocate memory'
+receive_fails mkstemp:1:EROFS 'not written, no temporary file can be made in its folder: Read-only file system'
+receive_fails write:1:ENOSPC 'not written, its temporary file cannot be written: No space left on device'
+receive_fails fsync:1:EIO 'not written, its temporary file cannot be brought to the disk: Input/output error'
+receive_fails close:3:ENOSPC 'not written, its temporary file cannot be closed: No space left on device'
+receive_fails rename:1:ENOSPC 'not written, its temporary file cannot be given its name: No space left on device'
+cp words.trace made.trace
+faulty fsync:2:EIO from old.trace try 2 receive made.trace
+says err 'made.trace: written, but its folder cannot be brought to the disk: Input/output error'
+same made.trace new.trace
+
 # What cannot be removed is told by its name.
 prepare
 faulty rename:1:EIO,unlink:1:EACCES try 2 replay night.trace
@@ -171,12 +207,24 @@ for fault in read:1:EINTR read:2:EINTR write:1:EINTR read:1:SHORT write:1:SHORT;
     faulty "$fault" try 0 mend night.trace 0 one-event.patch
     faulty "$fault" try 0 check night.trace
 done
+for fault in poll:1:EINTR poll:2:EINTR read:1:EINTR read:2:EINTR write:1:EINTR read:1:SHORT write:1:SHORT; do
+    rm -f made.trace
+    faulty "$fault" from old.trace try 0 receive made.trace
+    same made.trace new.trace
+done
 
 # A signal before the rename: the image is as it was. One that comes later waits until the line is told.
 for fault in mkstemp:1:TERM write:1:TERM fsync:1:TERM lstat:1:TERM; do
     prepare
     keep night.trace faulty "$fault" try 143 replay night.trace
     says err 'not written, a signal came first'
+    cp words.trace made.trace
+    keep made.trace faulty "$fault" from old.trace try 143 receive made.trace
+done
+for fault in poll:1:TERM read:1:TERM poll:2:TERM read:2:TERM; do
+    cp words.trace made.trace
+    keep made.trace faulty "$fault" from old.trace try 143 receive made.trace
+    verdict "$fault: no message" [ "$(grep -c hsc: err)" -eq 0 ]
 done
 for fault in rename:1:TERM fsync:2:TERM; do
     prepare
@@ -184,6 +232,10 @@ for fault in rename:1:TERM fsync:2:TERM; do
     says out 'events 2 snapshots 3'
     same night.trace new.trace
     verdict "$fault: no temporary file" no_temporary
+    cp words.trace made.trace
+    faulty "$fault" from old.trace try 0 receive made.trace
+    says out 'written to made.trace'
+    same made.trace new.trace
 done
 
 # An image that another program changes while it is read, or before it is replaced.

@@ -34,11 +34,6 @@ verdict 'no temporary file stays' no_temporary
 try 0 replay "$(pwd)/folder/target.trace"
 
 # Files and a folder that a user who is not root may not write or read.
-nobody=
-if [ "$(id -u)" -eq 0 ]; then
-    nobody='setpriv --reuid=65534 --regid=65534 --clear-groups'
-    $nobody true 2> /dev/null || nobody=false
-fi
 mkdir -m 777 open shut
 cp two-events.trace open/reader.trace
 cp two-events.trace open/hidden.trace

@@ -85,7 +85,7 @@ verdict 'the edit of the slow mend is there' edit_is_there race.trace 1
 verdict 'the edit of the other mend is there' edit_is_there race.trace 2
 verdict 'no message that is not for a terminal' [ ! -s err ]
 
-# So with links, with replay, and with -o over the same file.
+# So with links, with replay, with -o over the same file, and with an image that is received.
 ln -s race.trace link.trace
 cp turn-0.trace race.trace
 meanwhile mend link.trace 9 patch-1-1
@@ -105,6 +105,30 @@ cp turn-0.trace race.trace
 meanwhile mend race.trace 9 patch-1-1
 soon
 try 0 replay turn-1.trace -o race.trace
+slow_is_done 0
+same race.trace turn-1.trace
+cp turn-0.trace race.trace
+meanwhile mend race.trace 9 patch-1-1
+soon
+from turn-1.trace try 0 receive race.trace
+slow_is_done 0
+same race.trace turn-1.trace
+
+# A receiver that waits for its sender holds no lock.
+mkfifo radio
+cp turn-0.trace race.trace
+FAULT_CALLS=calls "$PROGRAM" receive race.trace < radio > slow.out 2> slow.err &
+slow=$!
+exec 3> radio
+head -c 100 turn-1.trace >&3
+for i in $(seq 500); do
+    [ "$(cat calls 2> /dev/null | grep -c -x poll)" -lt 2 ] || break
+    sleep 0.02
+done
+try 0 mend race.trace 18 patch-1-2
+verdict 'the edit of the mend is there meanwhile' edit_is_there race.trace 2
+tail -c +101 turn-1.trace >&3
+exec 3>&-
 slow_is_done 0
 same race.trace turn-1.trace
 

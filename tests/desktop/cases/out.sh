@@ -92,13 +92,6 @@ verdict 'a dry run makes no file' [ ! -e never.trace ]
 verdict 'a dry run leaves the file' [ "$(stat -c '%i %y %z' zero.trace)" = "$before" ]
 keep zero.trace refuse 7 0 mend --dry-run zero.trace 3 one-event.patch
 
-# from FILE COMMAND..: runs the command with the file as standard input.
-from() {
-    from_file=$1
-    shift
-    "$@" < "$from_file"
-}
-
 # - is standard input: an image that is read, and a patch. A pipe will do.
 for words in 'check' 'info' 'replay --dry-run'; do
     try 0 $words two-events.trace

@@ -38,20 +38,22 @@ verdict "hsc mend with no streams, refused: exit status $status" [ "$status" -eq
 same zero.trace two-events.trace
 
 # A line about a written file that is lost: the file is written, and that is told.
-for words in 'replay zero.trace' 'mend zero.trace 0 one-event.patch' 'replay zero.trace -o other.trace'; do
+for words in 'replay zero.trace' 'mend zero.trace 0 one-event.patch' 'replay zero.trace -o other.trace' \
+    'receive received.trace'; do
     { head -c 48 two-events.trace; zeros $((3 * 68)); } > zero.trace
     status=0
-    "$PROGRAM" $words > /dev/full 2> err || status=$?
+    "$PROGRAM" $words < zero.trace > /dev/full 2> err || status=$?
     verdict "hsc $words > /dev/full: exit status $status" [ "$status" -eq 2 ]
     says err '.trace: written, but the line about it cannot be printed: No space left on device'
 done
 same other.trace two-events.trace
+same received.trace two-events.trace
 
 # The limit on the size of files stands for a full disk: the messages go through a pipe.
 { head -c 48 two-events.trace; zeros $((3 * 68)); } > zero.trace
 cp zero.trace kept.trace
-for words in 'replay zero.trace' 'mend zero.trace 0 one-event.patch'; do
-    message=$( (ulimit -f 0 && exec "$PROGRAM" $words) 2>&1 > /dev/null)
+for words in 'replay zero.trace' 'mend zero.trace 0 one-event.patch' 'receive zero.trace'; do
+    message=$( (ulimit -f 0 && exec "$PROGRAM" $words < two-events.trace) 2>&1 > /dev/null)
     verdict "hsc $words over the limit: exit status" [ $? -eq 2 ]
     verdict "hsc $words over the limit is told: $message" [ "$message" != "${message#*File too large}" ]
     same zero.trace kept.trace
@@ -68,12 +70,20 @@ if [ "$(id -u)" -eq 0 ] && unshare -m mount -t tmpfs -o size=8k none disk 2> /de
         [ $? -eq 2 ] || exit 95
         cmp -s disk.trace ../kept.trace || exit 94
         [ "$(ls -A)" = "$(printf "disk.trace\nfiller")" ] || exit 93
+        for out in disk.trace new.trace; do
+            "$1" receive "$out" < ../two-events.trace 2>> ../err
+            [ $? -eq 2 ] || exit 90
+            cmp -s disk.trace ../kept.trace || exit 89
+            [ "$(ls -A)" = "$(printf "disk.trace\nfiller")" ] || exit 88
+        done
         rm filler && "$1" replay disk.trace > /dev/null || exit 92
         cmp -s disk.trace ../two-events.trace || exit 91
+        "$1" receive disk.trace < ../kept.trace > /dev/null || exit 87
+        cmp -s disk.trace ../two-events.trace || exit 86
     ' sh "$PROGRAM"
     status=$?
     verdict "a full disk: $status" [ "$status" -eq 0 ]
-    says err 'No space left on device'
+    verdict 'a full disk is told each time' [ "$(grep -c 'No space left on device' err)" -eq 3 ]
 else
     skip 'a full disk needs root and a mount'
 fi

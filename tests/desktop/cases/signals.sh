@@ -46,7 +46,7 @@ judge() {
     no_temporary || left=$((left + 1))
 }
 
-# signals ROUNDS FILE WORD..: a signal in each run of the program, which writes the file.
+# signals ROUNDS FILE WORD..: a signal in each run of the program, which writes the file. Standard input is an image.
 signals() {
     rounds=$1 file=$2 before=0 after=0 silent=0 wrong=0 left=0
     shift 2
@@ -60,7 +60,7 @@ signals() {
         rm -f .hsc-* made.trace
         cp old.trace night.trace
         status=0
-        ./interrupt "$signal" $((chance / 256 % takes)) "$PROGRAM" "$@" > out 2> err || status=$?
+        ./interrupt "$signal" $((chance / 256 % takes)) "$PROGRAM" "$@" < new.trace > out 2> err || status=$?
         judge "$signal" "$file"
     done
     echo "signals: $rounds sent, $before before the rename, $after later; $silent silent changes, $left temporary files"
@@ -73,15 +73,32 @@ signals() {
 
 signals 200 night.trace replay night.trace
 signals 100 made.trace replay night.trace -o made.trace
+signals 100 made.trace receive made.trace
+
+# A signal while the sender is waited for, before its first byte and after some: nothing is there that could stay.
+rm -f made.trace
+mkfifo radio
+for size in 0 10 100 60000; do
+    { head -c "$size" new.trace && exec sleep 60; } > radio &
+    sender=$!
+    status=0
+    ./interrupt 2 500000 "$PROGRAM" receive made.trace < radio > out 2> err || status=$?
+    kill "$sender"
+    verdict "a signal after $size bytes: exit status $status" [ "$status" -eq 130 ]
+    verdict "a signal after $size bytes: no file, and none that is temporary" [ "$(find . -name made.trace -o -name '.hsc-*')" = '' ]
+    verdict "a signal after $size bytes: nothing is told" [ ! -s out -a ! -s err ]
+done
 
 # A reader of standard output that has gone away: the file is written, and that the line is lost is told.
-for words in 'replay night.trace' 'mend night.trace 0 one-event.patch' 'replay night.trace -o other.trace'; do
+for words in 'replay night.trace' 'mend night.trace 0 one-event.patch' 'replay night.trace -o other.trace' \
+    'receive received.trace'; do
     cp old.trace night.trace
-    { FAULT=fsync:1:DELAY "$PROGRAM" $words 2> err; echo $? > status; } | :
+    { FAULT=fsync:1:DELAY "$PROGRAM" $words < old.trace 2> err; echo $? > status; } | :
     verdict "hsc $words, no reader: exit status $(cat status)" [ "$(cat status)" -eq 2 ]
     says err '.trace: written, but the line about it cannot be printed: Broken pipe'
 done
 same other.trace new.trace
+same received.trace new.trace
 
 # A reader that has gone away ends a command that only prints, as it does others.
 { FAULT=read:1:DELAY "$PROGRAM" check new.trace 2> err; echo $? > status; } | :

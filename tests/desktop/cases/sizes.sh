@@ -25,7 +25,21 @@ try 0 show largest.trace 1048576
 says out 'ACC      9'
 truncate -s $((12 * 1048576 + 12)) over.patch
 keep largest.trace refuse 7 0 mend largest.trace 0 over.patch
-rm largest.trace
+cat largest.trace | "$PROGRAM" receive received.trace > out 2> err
+verdict 'the largest image is received' [ $? -eq 0 ]
+prints << END
+events 1048576 snapshots 1048577 acc 9 out 0000 er 0 flags 00000780
+table true as sent
+written to received.trace
+END
+same received.trace largest.trace
+rm largest.trace received.trace
+
+# A sender that has no end is refused at the first byte past the image.
+{ header 1048576 4096; cat /dev/zero; } 2> /dev/null | "$PROGRAM" receive received.trace > out 2> err
+verdict 'a sender without an end is refused' [ $? -eq 1 ]
+says err "refused 4 at 0: the image's length is not what its header asks for; seen after $((24 + 12 * 1048576 + 68 * 257 + 1)) bytes"
+verdict 'nothing is written' [ ! -e received.trace ]
 
 # Not read: the header decides.
 header 1048576 1 > over.trace

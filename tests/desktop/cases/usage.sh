@@ -4,13 +4,13 @@ for words in --help -h help; do
     try 0 $words
     says out 'usage: hsc COMMAND'
     cp out "help$words"
-    for command in info events show state draw check compare replay mend encode build help; do
+    for command in info events show state draw check compare replay mend encode build receive help; do
         says out "  hsc $command "
     done
 done
 same help--help help-h
 same help--help helphelp
-for command in info events show state draw check compare replay mend encode build help; do
+for command in info events show state draw check compare replay mend encode build receive help; do
     try 0 help "$command"
     says out "usage: hsc $command "
     cp out described
@@ -51,6 +51,7 @@ for words in '' nonsense --nonsense; do
 done
 for words in info replay check show mend events state encode build 'info a b' 'replay a b' 'show a' 'show a 1 2' \
     'mend a 1' 'mend a 1 b c' 'events a 1 2 3' 'state a 1 2' 'encode a' 'encode a b c' 'build a 1' 'build a 1 b c' \
+    receive 'receive a - b' 'receive -o a' 'receive --dry-run a' \
     compare 'compare a' 'compare a b c' 'compare --bare a b' 'compare --all a b --all' 'check --events a' \
     draw 'draw a b' 'draw --from' 'draw a --count' 'draw a --from 1 --from 2' 'draw --gaps a' 'draw a -o' \
     'events --csv a' 'events --from 1 a' 'events --gaps a' 'encode --bare a b' 'help a b' 'info -x' 'info --' 'info --check a' 'replay -o' 'replay a -o' 'mend --dry-run a 1 b --dry-run'; do

@@ -6,14 +6,23 @@ use crate::model::event::Bytes;
 use crate::model::snapshot;
 use crate::model::trace::{HEADER_SIZE, MAX_EVENTS, MAX_SPACING};
 
+/// The header of an image with so many events.
+pub fn header(events: usize, spacing: usize) -> [u8; HEADER_SIZE] {
+    let numbers = [events, HEADER_SIZE, events / spacing + 1, HEADER_SIZE + 12 * events, spacing, 0];
+    let mut bytes = [0; HEADER_SIZE];
+    for (word, number) in bytes.as_chunks_mut().0.iter_mut().zip(numbers) {
+        *word = (number as u32).to_le_bytes();
+    }
+    bytes
+}
+
 /// The header and the events, then a table of zeros.
 pub fn image(events: &[Bytes], spacing: usize) -> Vec<u8> {
-    let snapshots = events.len() / spacing + 1;
-    let snapshot_offset = HEADER_SIZE + 12 * events.len();
-    let header = [events.len(), HEADER_SIZE, snapshots, snapshot_offset, spacing, 0];
-    let size = snapshot_offset + snapshot::SIZE * snapshots;
+    let header = header(events.len(), spacing);
+    let parts = Parts::of(&header);
+    let size = parts.snapshot(parts.snapshots);
     let mut bytes = Vec::with_capacity(size);
-    bytes.extend(header.iter().flat_map(|&number| (number as u32).to_le_bytes()));
+    bytes.extend_from_slice(&header);
     bytes.extend_from_slice(events.as_flattened());
     bytes.resize(size, 0);
     bytes
@@ -156,7 +165,7 @@ pub fn damage(rng: &mut Rng, image: &mut Vec<u8>) {
 const LIMITS: [u32; 9] =
     [0, 1, 24, MAX_SPACING, MAX_SPACING + 1, MAX_EVENTS, MAX_EVENTS + 1, 1 << 31, u32::MAX];
 
-fn change_header(rng: &mut Rng, image: &mut [u8]) {
+pub(super) fn change_header(rng: &mut Rng, image: &mut [u8]) {
     let word = &mut image.as_chunks_mut().0[rng.below(6)];
     let old = u32::from_le_bytes(*word);
     let new = match rng.below(3) {

@@ -6,6 +6,7 @@ pub mod image;
 pub mod pair;
 pub mod parts;
 pub mod patch;
+pub mod reader;
 mod rng;
 pub mod sampling;
 pub mod state;

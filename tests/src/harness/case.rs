@@ -3,7 +3,7 @@
 use std::fmt;
 use std::ops::Range;
 
-use crate::model::Refusal;
+use crate::model::{reader, snapshot, Refusal};
 use crate::subject::Subject;
 
 #[derive(Clone, Copy, PartialEq, Eq, Debug)]
@@ -17,11 +17,21 @@ pub enum Call {
     Rest,
     Draw,
     FirstDifference,
+    ReaderNew,
+    ReaderFeed,
+    ReaderEnd,
+}
+
+impl Call {
+    /// Whether it is lent a reader.
+    pub fn of_reader(self) -> bool {
+        matches!(self, Call::ReaderNew | Call::ReaderFeed | Call::ReaderEnd)
+    }
 }
 
 /// A call and what it is lent: `buffer` is the snapshot, image, first trace or first part, `input`
-/// the event or events, patch, second trace or second part, `row` the count of the row's numbers.
-/// Two parts that are `shared` both lie in the buffer.
+/// the event or events, patch, second trace, second part or chunk, `row` the count of the row's
+/// numbers. Two parts that are `shared` both lie in the buffer.
 #[derive(Debug)]
 pub struct Case {
     pub call: Call,
@@ -30,6 +40,7 @@ pub struct Case {
     pub input: Vec<u8>,
     pub row: usize,
     pub shared: Option<[Range<usize>; 2]>,
+    pub reader: reader::Bytes,
 }
 
 /// Bytes, or numbers of the row, on each side of a lent buffer that no call may touch: more than
@@ -40,6 +51,7 @@ const GUARD: usize = 80;
 pub const PAINT: u8 = 0xa5;
 const PAINTED_NUMBER: u32 = u32::from_le_bytes([PAINT; 4]);
 const PAINTED_SIGNED: i32 = i32::from_le_bytes([PAINT; 4]);
+const PAINTED_LONG: u64 = u64::from_le_bytes([PAINT; 8]);
 
 /// The results with guards between them, in one block so that a stray write shows.
 #[repr(C)]
@@ -56,6 +68,10 @@ pub struct Results {
     guard_4: [u8; GUARD],
     pub part: [u64; 2],
     guard_5: [u8; GUARD],
+    pub taken: [u64; 2],
+    guard_6: [u8; GUARD],
+    pub reader: reader::Bytes,
+    guard_7: [u8; GUARD],
 }
 
 impl Results {
@@ -69,8 +85,12 @@ impl Results {
         guard_3: [PAINT; GUARD],
         count: PAINTED_NUMBER,
         guard_4: [PAINT; GUARD],
-        part: [u64::from_le_bytes([PAINT; 8]); 2],
+        part: [PAINTED_LONG; 2],
         guard_5: [PAINT; GUARD],
+        taken: [PAINTED_LONG; 2],
+        guard_6: [PAINT; GUARD],
+        reader: [PAINT; reader::SIZE],
+        guard_7: [PAINT; GUARD],
     };
 }
 
@@ -104,7 +124,7 @@ impl Answer {
             input: guarded(&case.input),
             row: vec![PAINTED_NUMBER; GUARD + case.row + GUARD],
             curve: vec![PAINTED_SIGNED; GUARD + case.row + GUARD],
-            results: Results::PAINTED,
+            results: Results { reader: case.reader, ..Results::PAINTED },
         }
     }
 
@@ -129,8 +149,8 @@ impl Answer {
         inside(&mut want.buffer).copy_from_slice(self.buffer());
         inside(&mut want.row).copy_from_slice(self.row());
         inside(&mut want.curve).copy_from_slice(self.curve());
-        let Results { fields, last, span, count, part, .. } = self.results;
-        want.results = Results { fields, last, span, count, part, ..Results::PAINTED };
+        let Results { fields, last, span, count, part, taken, reader, .. } = self.results;
+        want.results = Results { fields, last, span, count, part, taken, reader, ..Results::PAINTED };
         *self == want
     }
 
@@ -149,12 +169,18 @@ impl Answer {
         (self.status >> 32) as usize
     }
 
+    /// The refusal, if there was one, of a call that may be refused.
+    pub fn refusal(&self) -> Option<Refusal> {
+        Refusal::from_status(self.status)
+    }
+
     /// The first place at which each part differs; lent bytes count from the guard's end.
     fn difference(&self, want: &Answer) -> String {
         let (ours, theirs) = (&self.results, &want.results);
         let guards = |results: &Results| {
-            let &Results { guard_0, guard_1, guard_2, guard_3, guard_4, guard_5, .. } = results;
-            [guard_0, guard_1, guard_2, guard_3, guard_4, guard_5].concat()
+            let &Results { guard_0, guard_1, guard_2, guard_3, .. } = results;
+            let &Results { guard_4, guard_5, guard_6, guard_7, .. } = results;
+            [guard_0, guard_1, guard_2, guard_3, guard_4, guard_5, guard_6, guard_7].concat()
         };
         let parts = [
             first_difference("status", &[self.status], &[want.status], 0),
@@ -167,6 +193,8 @@ impl Answer {
             first_difference("span", &ours.span, &theirs.span, 0),
             first_difference("count", &[ours.count], &[theirs.count], 0),
             first_difference("part", &ours.part, &theirs.part, 0),
+            first_difference("taken", &ours.taken, &theirs.taken, 0),
+            first_difference("reader", &ours.reader, &theirs.reader, 0),
             first_difference("guards", &guards(ours), &guards(theirs), 0),
         ];
         parts.into_iter().flatten().collect::<Vec<_>>().join("; ")
@@ -225,8 +253,21 @@ impl Case {
         Case { shared: Some(parts), ..Case::lend(Call::FirstDifference, memory, 0, &[]) }
     }
 
+    pub fn reader_new(reader: &reader::Bytes) -> Case {
+        Case { reader: *reader, ..Case::lend(Call::ReaderNew, &[], 0, &[]) }
+    }
+
+    pub fn reader_feed(reader: &reader::Bytes, chunk: &[u8], buffer: &[u8]) -> Case {
+        Case { reader: *reader, ..Case::lend(Call::ReaderFeed, buffer, 0, chunk) }
+    }
+
+    pub fn reader_end(reader: &reader::Bytes, buffer: &[u8]) -> Case {
+        Case { reader: *reader, ..Case::lend(Call::ReaderEnd, buffer, 0, &[]) }
+    }
+
     fn lend(call: Call, buffer: &[u8], first: u64, input: &[u8]) -> Case {
-        Case { call, buffer: buffer.to_vec(), first, input: input.to_vec(), row: 0, shared: None }
+        let (buffer, input) = (buffer.to_vec(), input.to_vec());
+        Case { call, buffer, first, input, row: 0, shared: None, reader: [PAINT; reader::SIZE] }
     }
 
     /// The two parts of bytes that the case compares.
@@ -262,6 +303,12 @@ impl Case {
                 let [first, second] = self.parts_of(buffer, input);
                 subject.first_difference(first, second)
             }
+            Call::ReaderNew => {
+                subject.reader_new(&mut results.reader);
+                0
+            }
+            Call::ReaderFeed => subject.reader_feed(&mut results.reader, input, buffer, &mut results.taken),
+            Call::ReaderEnd => subject.reader_end(&mut results.reader, buffer),
         };
         // The optimizer may not take the guards for unchanged.
         std::hint::black_box(answer)
@@ -304,21 +351,51 @@ impl Case {
         Answer::unchanged(self, place as u64)
     }
 
+    /// Answers a refusal that the reader remembers from now on, with all else as it was.
+    pub fn remembered(&self, refusal: Refusal) -> Answer {
+        let mut answer = self.refused_by(refusal);
+        answer.results.reader = reader::refused(refusal);
+        answer
+    }
+
+    /// Answers this reader, that so many bytes were taken, and the snapshot that the buffer now
+    /// holds, if any.
+    pub fn taken(&self, reader: &reader::Bytes, count: usize, held: Option<&snapshot::Bytes>) -> Answer {
+        let mut answer = self.left(reader, held);
+        answer.results.taken = [count as u64, held.is_some().into()];
+        answer
+    }
+
+    /// Answers this reader and the final state.
+    pub fn ended(&self, reader: &reader::Bytes, last: &snapshot::Bytes) -> Answer {
+        self.left(reader, Some(last))
+    }
+
+    fn left(&self, reader: &reader::Bytes, held: Option<&snapshot::Bytes>) -> Answer {
+        let mut answer = Answer::unchanged(self, 0);
+        if let Some(snapshot) = held {
+            inside(&mut answer.buffer).copy_from_slice(snapshot);
+        }
+        answer.results.reader = *reader;
+        answer
+    }
+
     /// Whether the subject's answer is this one.
     pub fn expect(&self, subject: &dyn Subject, want: &Answer) -> Result<(), String> {
         let answer = self.answer(subject);
         if answer == *want {
             return Ok(());
         }
-        let Case { call, buffer, first, input, row, shared } = self;
+        let Case { call, buffer, first, input, row, shared, reader } = self;
         let shared = shared.as_ref().map(|parts| format!(", parts {parts:?}")).unwrap_or_default();
+        let reader = if call.of_reader() { format!("\nreader {}", hex(reader)) } else { String::new() };
         Err(format!(
             "{call:?} of {} bytes, first {first}, {} bytes of input, row {row}{shared}: {}\nbuffer {}\ninput {}",
             buffer.len(),
             input.len(),
             answer.difference(want),
             hex(buffer),
-            hex(input),
+            hex(input) + &reader,
         ))
     }
 }
@@ -352,5 +429,10 @@ mod tests {
         touched.curve[GUARD - 1] = 7;
         assert!(touched != case.drawn(&[0; 68], &[0]) && !touched.stays_within(&case));
         assert_eq!(touched.difference(&case.drawn(&[0; 68], &[0])), "curve at -1 is 7, not -1515870811");
+        let case = Case::reader_feed(&reader::NEW, &[], &[0; 68]);
+        let mut touched = case.taken(&reader::NEW, 0, None);
+        touched.results.guard_7[GUARD - 1] = 0;
+        assert!(touched != case.taken(&reader::NEW, 0, None) && !touched.stays_within(&case));
+        assert_eq!(touched.difference(&case.taken(&reader::NEW, 0, None)), "guards at 639 is 0, not 165");
     }
 }

@@ -3,14 +3,17 @@
 pub mod alone;
 pub mod case;
 pub mod demand3;
+pub mod receiver;
 pub mod slip;
 pub mod tally;
 
 use std::ops::Range;
 
 use case::{Answer, Call, Case, PAINT};
+use receiver::Phase;
 use tally::Tally;
 
+use crate::generate::reader;
 use crate::generate::{change_length, drawing, event, image, pair, parts, patch, sampling, state, Rng};
 use crate::model::event::{row, Event};
 use crate::model::{counter::Counter, snapshot};
@@ -24,6 +27,11 @@ pub fn run(subject: &dyn Subject, seed: u64, cases: Range<u64>) -> Result<Tally,
 /// The same with cases of demand 3 only.
 pub fn run_demand_3(subject: &dyn Subject, seed: u64, cases: Range<u64>) -> Result<Tally, String> {
     run_each(subject, seed, cases, demand_3)
+}
+
+/// The same with cases of two cuttings only.
+pub fn run_cuttings(subject: &dyn Subject, seed: u64, cases: Range<u64>) -> Result<Tally, String> {
+    run_each(subject, seed, cases, cuttings)
 }
 
 fn run_each(
@@ -42,7 +50,7 @@ fn run_each(
 }
 
 fn any_call(subject: &dyn Subject, rng: &mut Rng, tally: &mut Tally) -> Result<(), String> {
-    match rng.below(26) {
+    match rng.below(28) {
         0 => check_event(subject, rng, tally),
         1 => read(subject, rng, tally),
         2..=6 => step(subject, rng, tally),
@@ -52,17 +60,24 @@ fn any_call(subject: &dyn Subject, rng: &mut Rng, tally: &mut Tally) -> Result<(
         16..=18 => compare_nights(subject, rng, tally),
         19 => rest(subject, rng, tally),
         20..=23 => draw(subject, rng, tally),
-        _ => first_difference(subject, rng, tally),
+        24 | 25 => first_difference(subject, rng, tally),
+        _ => read_on(subject, rng, tally),
     }
 }
 
-/// Compares the subject's answer with the model's, which must leave all as it was if it refuses.
+/// Compares the subject's answer with the model's, which must leave all as it was if it refuses, but
+/// for a reader that remembers it.
 fn compare(subject: &dyn Subject, case: &Case, tally: &mut Tally) -> Result<Answer, String> {
     let want = case.answer(&Model);
     let refuses = !matches!(case.call, Call::EventCheck | Call::Rest | Call::FirstDifference);
-    let refused = refuses && want.status != 0;
-    if refused && want != Answer::unchanged(case, want.status) {
-        return Err(format!("the model refuses and writes: {case:?}"));
+    if refuses && want.status != 0 {
+        let left = match want.refusal() {
+            Some(refusal) if case.call.of_reader() && refusal.number != 9 => case.remembered(refusal),
+            _ => Answer::unchanged(case, want.status),
+        };
+        if want != left {
+            return Err(format!("the model refuses and writes: {case:?}"));
+        }
     }
     case.expect(subject, &want)?;
     tally.answer(case, &want);
@@ -179,5 +194,61 @@ fn first_difference(subject: &dyn Subject, rng: &mut Rng, tally: &mut Tally) -> 
     };
     let answer = compare(subject, &case, tally)?;
     tally.difference(&case, &answer);
+    Ok(())
+}
+
+/// One call on a reader, at times a bent one; seldom the bytes come in chunks to the end.
+fn read_on(subject: &dyn Subject, rng: &mut Rng, tally: &mut Tally) -> Result<(), String> {
+    match rng.below(64) {
+        0..=2 => return receive(subject, rng, tally),
+        3 | 4 => return cuttings(subject, rng, tally),
+        _ => {}
+    }
+    let (mut reader, mut chunk) = reader::well_formed(rng);
+    reader::chunk(rng, &mut chunk);
+    let bent = rng.once_in(4);
+    if bent {
+        reader::bend(rng, &mut reader);
+    }
+    let buffer = reader::buffer(rng);
+    let case = if rng.once_in(4) {
+        Case::reader_end(&reader, &buffer)
+    } else {
+        Case::reader_feed(&reader, &chunk, &buffer)
+    };
+    let answer = compare(subject, &case, tally)?;
+    let fault = reader::fault(&reader);
+    if (answer.number() == 9) != (fault.is_some() || buffer.len() != snapshot::SIZE) {
+        return Err(format!(
+            "the model takes a reader for well formed that is not, or not one that is: {case:?}"
+        ));
+    }
+    if bent {
+        tally.bent(fault.is_none());
+    }
+    match fault {
+        None => tally.reader(&case, &answer, Phase::of(&reader)),
+        Some(rule) if buffer.len() == snapshot::SIZE => tally.ill_formed(&case, rule),
+        Some(_) => {}
+    }
+    Ok(())
+}
+
+fn receive(subject: &dyn Subject, rng: &mut Rng, tally: &mut Tally) -> Result<(), String> {
+    let bytes = reader::sent(rng);
+    let cutting = reader::cutting(rng, bytes.len());
+    let answer = |case: &Case, phase| {
+        let answer = compare(subject, case, tally)?;
+        tally.reader(case, &answer, phase);
+        Ok(answer)
+    };
+    receiver::receive(&bytes, &cutting, answer).map(drop)
+}
+
+fn cuttings(subject: &dyn Subject, rng: &mut Rng, tally: &mut Tally) -> Result<(), String> {
+    let bytes = reader::sent(rng);
+    let cuttings = [(); 2].map(|()| reader::cutting(rng, bytes.len()));
+    let number = receiver::holds(subject, &bytes, cuttings.each_ref().map(|cutting| &cutting[..]))?;
+    tally.cuttings(number);
     Ok(())
 }

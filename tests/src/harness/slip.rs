@@ -1,6 +1,7 @@
 //! Subjects that are wrong on purpose, each by one slip over the model, to see that the
 //! harness catches it.
 
+mod reader;
 mod sample;
 
 use std::cell::Cell;
@@ -12,6 +13,8 @@ use crate::model::counter::{Counter, OUTPUTS};
 use crate::model::{event, flags, snapshot, Refusal};
 use crate::subject::{Model, Subject};
 use sample::Sampling;
+
+pub use reader::Reading;
 
 /// Where a snapshot has ACC.
 const ACC: Range<usize> = 52..56;
@@ -82,6 +85,8 @@ pub enum Slip {
     WholeBlocksAlone,
     /// Looks past the shorter, as if zeros stood there.
     LooksPast,
+    /// Reads a trace in chunks by another rule.
+    Read(Reading),
 }
 
 impl Slip {
@@ -122,6 +127,7 @@ impl Slip {
             Slip::LooksPast,
         ];
         all.extend(Sampling::ALL.map(Slip::Sample));
+        all.extend(Reading::all().into_iter().map(Slip::Read));
         all
     }
 }
@@ -303,5 +309,32 @@ impl Subject for Slip {
             _ => place,
         };
         wrong as u64
+    }
+
+    fn reader_new(&self, reader: &mut [u8; 116]) {
+        match self {
+            Slip::Read(rule) => rule.write_new(reader),
+            _ => Model.reader_new(reader),
+        }
+    }
+
+    fn reader_feed(
+        &self,
+        reader: &mut [u8; 116],
+        chunk: &[u8],
+        buffer: &mut [u8],
+        taken: &mut [u64; 2],
+    ) -> u64 {
+        match self {
+            Slip::Read(rule) => rule.feed(reader, chunk, buffer, taken),
+            _ => Model.reader_feed(reader, chunk, buffer, taken),
+        }
+    }
+
+    fn reader_end(&self, reader: &mut [u8; 116], buffer: &mut [u8]) -> u64 {
+        match self {
+            Slip::Read(rule) => rule.end(reader, buffer),
+            _ => Model.reader_end(reader, buffer),
+        }
     }
 }

@@ -5,12 +5,14 @@ use std::collections::BTreeMap;
 use std::fmt;
 
 use super::case::{Answer, Call, Case};
-use crate::generate::image::Table;
+use super::receiver::Phase;
+use crate::generate::image::{Parts, Table};
 use crate::generate::pair;
 use crate::generate::parts::BLOCK;
 use crate::model::counter::Counter;
-use crate::model::event::{first_illegal, row, Event};
-use crate::model::trace::MAX_EVENTS;
+use crate::model::event::{self, first_illegal, row, Event};
+use crate::model::reader::{number, EVENT, HEADER, TAKEN};
+use crate::model::trace::{HEADER_SIZE, MAX_EVENTS, MAX_SPACING};
 use crate::model::{flags, snapshot, Fate};
 
 #[derive(Default)]
@@ -19,7 +21,7 @@ pub struct Tally {
 }
 
 /// Each heading with the numbers that must be reached under it.
-const REQUIRED: [(&str, &[u32]); 56] = [
+const REQUIRED: [(&str, &[u32]); 83] = [
     (CHECK, &[0, 1, 9]),
     (STEP, &[0, 5, 6, 9]),
     (READ, &[0, 6, 9]),
@@ -76,12 +78,41 @@ const REQUIRED: [(&str, &[u32]); 56] = [
     (SHARED, &[0, 1, 2]),
     (IN_BLOCK, IN_BLOCKS),
     (BLOCK_END, IN_BLOCKS),
+    (FEED, &[0, 1, 2, 3, 4, 5, 9]),
+    (FEED_DONE, &[0, 1, 2, 3, 4, 5, 6, 7, 8]),
+    (FEED_1, &[9]),
+    (FEED_2, &[0, 1, 2, 9]),
+    (FEED_3, &[0, 1, 2, 9]),
+    (FEED_4, &[3, 4, 5, 6, 7, 8, 9]),
+    (FEED_5, &[3, 4, 5, 9]),
+    (FEED_9, PHASES),
+    (END, &[0, 1, 2, 3, 4, 5, 9]),
+    (END_DONE, &[7, 8]),
+    (END_1, &[0, 1, 2, 9]),
+    (END_2, &[9]),
+    (END_3, &[9]),
+    (END_4, &[3, 4, 5, 6, 9]),
+    (END_5, &[9]),
+    (END_9, PHASES),
+    (CUT_OFF, &[0, 1]),
+    (FEED_READER, READER_RULES),
+    (END_READER, READER_RULES),
+    (BENT, &[0, 1]),
+    (BUFFER, &[0, 1, 2]),
+    (STOPPED, &[0, 1, 2, 3]),
+    (HANDED_OUT, &[0, 1, 2, 3]),
+    (FEED_ILLEGAL, &[0, 1, 2, 3, 4, 5]),
+    (FEED_SPACING, &[0, 1, 2]),
+    (FEED_EVENTS, &[0, 1, 2, 3, 4]),
+    (CUTTINGS, &[0, 1, 2, 3, 4, 5]),
 ];
 
 const KINDS: &[u32] = &[0, 1, 2, 3, 4, 5, 6, 7, 8, 9];
 const CAUSES: &[u32] = &[1, 2, 3, 4];
 const TRACES: &[u32] = &[1, 2];
 const TABLES: &[u32] = &[0, 1, 2, 3, 4, 5];
+const PHASES: &[u32] = &[0, 1, 2, 3, 4, 5, 6, 7, 8, 9];
+const READER_RULES: &[u32] = &[0, 1, 2, 3, 4, 5, 6, 7, 8, 9, 10, 11, 12];
 /// The places in a block of bytes.
 const IN_BLOCKS: &[u32] = &{
     let mut places = [0; BLOCK];
@@ -160,6 +191,44 @@ const SHARED: &str =
     "first difference in one memory: 0 of a part and itself, 1 of parts that overlap, 2 apart";
 const IN_BLOCK: &str = "first difference: place modulo 64";
 const BLOCK_END: &str = "first difference: none, the shorter's length modulo 64";
+const FEED: &str = "feed: refusal";
+const FEED_DONE: &str =
+    "feed done, where the reader stood: 0 no byte came, 1 header not whole, 2 but for its last byte, \
+     3 in an event, 4 between events, 5 at a snapshot's place, 6 in the snapshot area, 7 complete, \
+     8 the end told, 9 refused";
+const FEED_1: &str = "feed refused by 1, where the reader stood";
+const FEED_2: &str = "feed refused by 2, where the reader stood";
+const FEED_3: &str = "feed refused by 3, where the reader stood";
+const FEED_4: &str = "feed refused by 4, where the reader stood";
+const FEED_5: &str = "feed refused by 5, where the reader stood";
+const FEED_9: &str = "feed refused by 9 for the buffer, where the reader stood";
+const END: &str = "end: refusal";
+const END_DONE: &str = "end done, where the reader stood";
+const END_1: &str = "end refused by 1, where the reader stood";
+const END_2: &str = "end refused by 2, where the reader stood";
+const END_3: &str = "end refused by 3, where the reader stood";
+const END_4: &str = "end refused by 4, where the reader stood";
+const END_5: &str = "end refused by 5, where the reader stood";
+const END_9: &str = "end refused by 9 for the buffer, where the reader stood";
+const CUT_OFF: &str = "end refused by 4 in an event that came but for its stamp: 0 illegal, 1 legal";
+const FEED_READER: &str =
+    "feed refused by 9 for the reader: refusal 0 number, 1 place, 2 place past any event, 3 bytes beside it, \
+     4 place alone; before the header is whole 5 bytes of it, 6 others; 7 header by 2, 8 by 3, 9 too many \
+     bytes, 10 state, bytes of an event 11 that did not come, 12 past the last";
+const END_READER: &str = "end refused by 9 for the reader (rules as above)";
+const BENT: &str = "bent reader: 0 no longer well formed, 1 still so";
+const BUFFER: &str = "buffer refused by 9: 0 none, 1 shorter, 2 longer";
+const STOPPED: &str =
+    "feed done: 0 of an empty chunk, 1 chunk used up, nothing held, 2 used up at a snapshot's place, \
+     3 bytes left there";
+const HANDED_OUT: &str = "feed done, snapshot held: 0 the first, 1 in between, 2 the last, 3 the only one";
+const FEED_ILLEGAL: &str =
+    "feed refused for an illegal event: 0 the first, 1 in between, 2 the last, 3 the only one, \
+     4 begun in an earlier chunk, 5 with a byte too many behind it in the chunk";
+const FEED_SPACING: &str = "feed done past the header: K 0 one, 1 more, 2 as many as may be";
+const FEED_EVENTS: &str =
+    "feed done past the header: E 0 none, 1 one, more 2 a multiple of K, 3 not so, 4 as many as may be";
+const CUTTINGS: &str = "the same bytes by two cuttings: refusal";
 
 /// An input's level before a sample, and its new one.
 const RISES: (bool, bool) = (false, true);
@@ -183,8 +252,8 @@ impl Tally {
     /// Counts the outcome of a case.
     pub fn answer(&mut self, case: &Case, answer: &Answer) {
         let heading = match case.call {
-            // Each place is an answer of its own.
-            Call::FirstDifference => return,
+            // Each place is an answer of its own, and a new reader has none.
+            Call::FirstDifference | Call::ReaderNew => return,
             Call::EventCheck => CHECK,
             Call::Step => STEP,
             Call::Read => READ,
@@ -193,6 +262,8 @@ impl Tally {
             Call::Compare => COMPARE,
             Call::Rest => REST,
             Call::Draw => DRAW,
+            Call::ReaderFeed => FEED,
+            Call::ReaderEnd => END,
         };
         self.add(heading, answer.number());
         if answer.place() != 0 {
@@ -369,6 +440,113 @@ impl Tally {
                 },
             );
         }
+    }
+
+    /// Counts what a call on a reader met, by where the reader stood.
+    pub fn reader(&mut self, case: &Case, answer: &Answer, phase: Phase) {
+        let number = answer.number();
+        let heading = match (case.call, number) {
+            (Call::ReaderFeed, 0) => FEED_DONE,
+            (Call::ReaderFeed, 1) => FEED_1,
+            (Call::ReaderFeed, 2) => FEED_2,
+            (Call::ReaderFeed, 3) => FEED_3,
+            (Call::ReaderFeed, 4) => FEED_4,
+            (Call::ReaderFeed, 5) => FEED_5,
+            (Call::ReaderFeed, _) => FEED_9,
+            (Call::ReaderEnd, 0) => END_DONE,
+            (Call::ReaderEnd, 1) => END_1,
+            (Call::ReaderEnd, 2) => END_2,
+            (Call::ReaderEnd, 3) => END_3,
+            (Call::ReaderEnd, 4) => END_4,
+            (Call::ReaderEnd, 5) => END_5,
+            (Call::ReaderEnd, _) => END_9,
+            _ => return,
+        };
+        self.add(heading, phase as u32);
+        match (case.call, number) {
+            (Call::ReaderFeed, 0) => self.fed(case, answer),
+            (Call::ReaderFeed, 5) if phase != Phase::Refused => self.illegal_fed(case, answer.place(), phase),
+            (Call::ReaderEnd, 4) if phase == Phase::InEvent => self.cut_off(case),
+            (_, 9) => {
+                let length = match case.buffer.len() {
+                    0 => 0,
+                    1..snapshot::SIZE => 1,
+                    _ => 2,
+                };
+                self.add(BUFFER, length);
+            }
+            _ => {}
+        }
+    }
+
+    /// Counts the first rule that a reader broke which is not well formed.
+    pub fn ill_formed(&mut self, case: &Case, rule: u32) {
+        self.add(if case.call == Call::ReaderEnd { END_READER } else { FEED_READER }, rule);
+    }
+
+    /// Counts whether a bent reader is still well formed.
+    pub fn bent(&mut self, well_formed: bool) {
+        self.add(BENT, well_formed.into());
+    }
+
+    fn fed(&mut self, case: &Case, answer: &Answer) {
+        let [count, held] = answer.results.taken;
+        let stopped = match (case.input.len(), held) {
+            (0, _) => 0,
+            (_, 0) => 1,
+            (length, _) if count == length as u64 => 2,
+            _ => 3,
+        };
+        self.add(STOPPED, stopped);
+        let taken = number(&answer.results.reader, TAKEN) as usize;
+        if taken < HEADER_SIZE {
+            return;
+        }
+        let parts = Parts::of(&answer.results.reader[HEADER]);
+        if held == 1 {
+            let index = (taken - HEADER_SIZE) / 12 / parts.spacing;
+            self.add(HANDED_OUT, end_or_between(index, parts.snapshots));
+        }
+        const MOST_EVENTS: usize = MAX_EVENTS as usize;
+        let events = match parts.events {
+            0 => 0,
+            1 => 1,
+            MOST_EVENTS => 4,
+            events => 2 + u32::from(events % parts.spacing != 0),
+        };
+        self.add(FEED_EVENTS, events);
+        const MOST_SPACING: usize = MAX_SPACING as usize;
+        let spacing = match parts.spacing {
+            1 => 0,
+            MOST_SPACING => 2,
+            _ => 1,
+        };
+        self.add(FEED_SPACING, spacing);
+    }
+
+    fn illegal_fed(&mut self, case: &Case, place: usize, phase: Phase) {
+        let parts = Parts::of(&case.reader[HEADER]);
+        let taken = number(&case.reader, TAKEN) as usize;
+        self.add(FEED_ILLEGAL, end_or_between(place, parts.events));
+        if phase == Phase::InEvent && place == (taken - HEADER_SIZE) / 12 {
+            self.add(FEED_ILLEGAL, 4);
+        }
+        if taken + case.input.len() > parts.snapshot(parts.snapshots) {
+            self.add(FEED_ILLEGAL, 5);
+        }
+    }
+
+    fn cut_off(&mut self, case: &Case) {
+        let taken = number(&case.reader, TAKEN) as usize;
+        if (taken - HEADER_SIZE) % event::SIZE >= event::STAMP {
+            let event = Event::from_bytes(case.reader[EVENT].try_into().unwrap());
+            self.add(CUT_OFF, event.is_legal().into());
+        }
+    }
+
+    /// Counts by what bytes were refused, or that they were not, in two cuttings.
+    pub fn cuttings(&mut self, number: u32) {
+        self.add(CUTTINGS, number);
     }
 
     /// Takes an event on a state and counts what happens in it.

@@ -1,6 +1,7 @@
-//! The model's nine calls, on slices as the C surface has them. A status holds the refusal's
+//! The model's twelve calls, on slices as the C surface has them. A status holds the refusal's
 //! number in bits 0 to 15, the trace it speaks of in bits 16 to 31 and its place in bits 32 to
-//! 63; 0 is done. A refusal leaves every lent buffer as it was.
+//! 63; 0 is done. A refusal leaves every lent buffer as it was, but for a reader, which remembers
+//! it.
 
 mod compare;
 pub mod counter;
@@ -9,6 +10,7 @@ mod draw;
 pub mod event;
 pub mod flags;
 mod interrupt;
+pub mod reader;
 mod sample;
 pub mod settings;
 pub mod snapshot;
@@ -40,6 +42,12 @@ impl Refusal {
     pub fn status(self) -> u64 {
         let place = u32::try_from(self.place).unwrap_or(u32::MAX);
         u64::from(self.number) | u64::from(self.trace) << 16 | u64::from(place) << 32
+    }
+
+    /// The refusal that a status tells, none if it is done.
+    pub fn from_status(status: u64) -> Option<Refusal> {
+        let [number, trace] = [status, status >> 16].map(|bits| u32::from(bits as u16));
+        (status != 0).then_some(Refusal { number, trace, place: (status >> 32) as usize })
     }
 }
 
@@ -123,4 +131,22 @@ pub fn draw(snapshot: &mut [u8], events: &[u8], row: &mut [i32]) -> u64 {
 #[inline(never)]
 pub fn first_difference(first: &[u8], second: &[u8]) -> u64 {
     difference::first_difference(first, second) as u64
+}
+
+/// Writes a reader that no byte came to.
+pub fn reader_new(reader: &mut reader::Bytes) {
+    *reader = reader::NEW;
+}
+
+/// Takes the chunk's bytes up to the next snapshot's place; `taken` takes their count and 1 if the
+/// buffer now holds that snapshot, else 0. Refusals 9, which leaves the reader too, the one it
+/// remembers, and 2, 3, 5 and 4 in the order of the bytes.
+pub fn reader_feed(reader: &mut reader::Bytes, chunk: &[u8], buffer: &mut [u8], taken: &mut [u64; 2]) -> u64 {
+    status(reader::feed(reader, chunk, buffer).map(|answer| *taken = answer))
+}
+
+/// Writes the final state over the buffer. Refusals 9, which leaves the reader too, the one it
+/// remembers, 1 and 4.
+pub fn reader_end(reader: &mut reader::Bytes, buffer: &mut [u8]) -> u64 {
+    status(reader::end(reader, buffer))
 }
