@@ -1,5 +1,5 @@
 -- What is claimed of a trace that comes in chunks (document 02, request 5): each statement whole, proved by naming the law that stands in
--- another crate's `proofs/`. The words are those of `pieces` and `image_reader`.
+-- another crate's `proofs/`. The words are those of `pieces`, `reader` and `receive`.
 use mathlib.Core.Path.{_≡_, refl}
 use mathlib.Core.List.{List}
 use Prim.Native.Nat.{ℕ, _<_}
@@ -11,14 +11,15 @@ use Rattle.pieces.specs.Receiving.{join}
 use Rattle.pieces.specs.Traces.{Format}
 use Rattle.pieces.specs.Claim.{Claim}
 use Rattle.image.specs.Editions.{maxSize}
-use Rattle.image_reader.specs.Formats.{ImageReader}
-use Rattle.image_reader.specs.Layout.{readerSize, bytesOf, readerIn}
-use Rattle.image_reader.specs.WellFormed.{WellFormed, SoundReader}
-use Rattle.image_reader.specs.Calls.{newReader, lentVerdict, feedVerdict, feedReader, feedBuffer, feedTaken, endVerdict, endReader, endBuffer}
-use Rattle.image_reader.specs.Receivers.{Receives, EndsAgain, Remembers}
+use Rattle.reader.specs.Formats.{ImageReader}
+use Rattle.reader.specs.Layout.{readerSize, bytesOf, readerIn}
+use Rattle.reader.specs.WellFormed.{WellFormed, SoundReader}
+use Rattle.receive.specs.Calls.{newReader, lentVerdict, feedVerdict, feedReader, feedBuffer, feedTaken, endVerdict, endReader, endBuffer}
+use Rattle.receive.specs.Receivers.{Receives, EndsAgain, Remembers}
 use Rattle.hsc.specs.Calls.{feedStatus, endStatus}
 use Rattle.pieces.proofs as pieces
-use Rattle.image_reader.proofs as reader
+use Rattle.reader.proofs as reader
+use Rattle.receive.proofs as receive
 use Rattle.hsc.proofs as hsc
 
 -- ---- the calls, as the checker reads their contracts for a caller; none asks anything
@@ -50,7 +51,7 @@ hsc-reader-end κs reader reader′ buffer buffer′ r = (refl, refl)
 -- order; and another cutting of the same bytes leaves it with the same.
 pub received : (image buffer : List ℕ) (chunks : List (List ℕ)) → Bytes image → length buffer ≡ maxSize → join chunks ≡ image
     → Receives image buffer chunks
-received = reader.Receivers.receives-claim
+received = receive.Receivers.receives-claim
 
 -- the same of any format of images, before there are bytes of a reader
 pub in-pieces : {width : ℕ} (F : Format width) → 0 < F .size → 0 < width → ((h : F .Head) → F .shape h .header ≡ F .size)
@@ -60,29 +61,29 @@ in-pieces = pieces.Theorem.claim
 -- ---- the end told again, and a call after a refusal
 
 pub end-again : (b buffer : List ℕ) → Bytes b → length b ≡ readerSize → (endVerdict b buffer ≡ refused 9 0 → ⊥) → EndsAgain b buffer
-end-again = reader.Again.end-again
+end-again = receive.Again.end-again
 
 pub feed-refused-again : (b buffer : List ℕ) (n t p : ℕ) → Bytes b → length b ≡ readerSize → (n ≡ 9 → ⊥) → (chunk : List ℕ) → Bytes chunk
     → feedVerdict b chunk buffer ≡ refusedIn n t p → Remembers (feedReader b chunk buffer) n t p
-feed-refused-again = reader.Again.feed-refused-again
+feed-refused-again = receive.Again.feed-refused-again
 
 pub end-refused-again : (b buffer : List ℕ) (n t p : ℕ) → Bytes b → length b ≡ readerSize → (n ≡ 9 → ⊥)
     → endVerdict b buffer ≡ refusedIn n t p → Remembers (endReader b buffer) n t p
-end-refused-again = reader.Again.end-refused-again
+end-refused-again = receive.Again.end-refused-again
 
 -- ---- the reader's bytes
 
 -- 9 leaves the reader, the buffer and the two numbers
 pub nine-leaves : (b chunk buffer taken : List ℕ) (n t p : ℕ) → lentVerdict b buffer ≡ refusedIn n t p
-    → reader.Ready.Untouched b chunk buffer taken
-nine-leaves = reader.Ready.nine-leaves
+    → receive.Ready.Untouched b chunk buffer taken
+nine-leaves = receive.Ready.nine-leaves
 
 -- each call leaves a well-formed reader well formed
-pub feed-stays : (b : List ℕ) → Bytes b → WellFormed b → (chunk buffer : List ℕ) → Bytes chunk → reader.Ready.Left (feedReader b chunk buffer)
-feed-stays = reader.Ready.feed-stays
+pub feed-stays : (b : List ℕ) → Bytes b → WellFormed b → (chunk buffer : List ℕ) → Bytes chunk → receive.Ready.Left (feedReader b chunk buffer)
+feed-stays = receive.Ready.feed-stays
 
-pub end-stays : (b : List ℕ) → Bytes b → WellFormed b → (buffer : List ℕ) → reader.Ready.Left (endReader b buffer)
-end-stays = reader.Ready.end-stays
+pub end-stays : (b : List ℕ) → Bytes b → WellFormed b → (buffer : List ℕ) → receive.Ready.Left (endReader b buffer)
+end-stays = receive.Ready.end-stays
 
 -- well-formed bytes and the readers that bytes of an image lead to translate to each other without loss
 pub reader-back : (b : List ℕ) → Bytes b → WellFormed b → bytesOf (readerIn b) ≡ b
@@ -99,7 +100,7 @@ reader-sound b bytes w = reader.RoundTrip.reads b bytes w .sound
 
 -- a refusal's place fits its half of the status
 pub feed-placed : (b buffer : List ℕ) → Bytes b → length b ≡ readerSize → (chunk : List ℕ) → Bytes chunk → Placed (feedVerdict b chunk buffer)
-feed-placed = reader.Bounds.feed-placed
+feed-placed = receive.Bounds.feed-placed
 
 pub end-placed : (b buffer : List ℕ) → Bytes b → length b ≡ readerSize → Placed (endVerdict b buffer)
-end-placed = reader.Bounds.end-placed
+end-placed = receive.Bounds.end-placed

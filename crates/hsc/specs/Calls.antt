@@ -19,7 +19,7 @@ use Rattle.image_mend.specs.Mends.{mendAnswer}
 use Rattle.compare.specs.Comparing.{compareAnswer}
 use Rattle.compare.specs.Rest.{restTrace, restPlace, restOf}
 use Rattle.draw.specs.Drawing.{drawVerdict}
-use Rattle.image_reader.specs.Calls.{feedVerdict, endVerdict}
+use Rattle.receive.specs.Calls.{feedVerdict, endVerdict}
 use Rattle.hsc.specs.Fields.{fieldsOf}
 
 -- ---- event check: 9, else 1 for yes or 0 for no
@@ -99,7 +99,7 @@ restNumber first second = traceNumber (restTrace first second)
 abbrev pub restPart : List ℕ → List ℕ → List ℕ
 restPart first second = restPlace first second ∷ length (restOf first second) ∷ []
 
--- ---- a trace in chunks (document 02, request 5): the reader, the buffer and the two numbers after are those of crate `image_reader`
+-- ---- a trace in chunks (document 02, request 5): the reader, the buffer and the two numbers after are those of crate `receive`
 
 abbrev pub feedStatus : (reader chunk buffer : List ℕ) → ℕ
 feedStatus reader chunk buffer = statusOf (feedVerdict reader chunk buffer)

@@ -1,11 +1,11 @@
 // The calls on a trace that comes in chunks.
-use image_reader::READER_SIZE;
-use image_reader::end;
-use image_reader::feed;
-use image_reader::new;
+use receive::READER_SIZE;
+use receive::end;
+use receive::feed;
+use receive::new;
 use refusal::status_of;
 ghost use mathlib.Core.Path.{_≡_};
-ghost use Rattle.image_reader.specs.Calls.{newReader, feedReader, feedBuffer, feedTaken, endReader, endBuffer};
+ghost use Rattle.receive.specs.Calls.{newReader, feedReader, feedBuffer, feedTaken, endReader, endBuffer};
 ghost use Rattle.hsc.specs.Calls.{feedStatus, endStatus};
 
 // Makes a reader of which nothing was taken.

@@ -1,7 +1,0 @@
--- Document 02, request 5: a trace that comes in chunks. Read in this order.
-pub mod Formats
-pub mod Layout
-pub mod WellFormed
-pub mod Calls
-pub mod Receivers
-pub mod Turns
