@@ -28,7 +28,10 @@ ended-whole h s n e = ap (λ (m : ℕ). ended format (passing h s m)) e
 module _ (b : List ℕ) (bytes : Bytes b) (w : WellFormed b) where
   -- the reader after the end, where the reader before is in this phase
   by-phase : {r : ImageReader} {p : Phase format} → readerIn b ≡ r → ended format (r .phase) ≡ p → bytesOf (reader radio p []) ≡ bytesOf (endedBy b)
-  by-phase e q = sym (ap (λ (s : ImageReader). bytesOf (reader radio (ended format (s .phase)) [])) e ∙ ap (λ (x : Phase format). bytesOf (reader radio x [])) q)
+  by-phase e q =
+      sym
+      (ap (λ (s : ImageReader). bytesOf (reader radio (ended format (s .phase)) [])) e
+      ∙ ap (λ (x : Phase format). bytesOf (reader radio x [])) q)
 
   pub refused-ends : (numberIn b ≡ 0 → ⊥) → b ≡ bytesOf (endedBy b)
   unfolding laidPhase ended

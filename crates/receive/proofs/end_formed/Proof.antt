@@ -88,7 +88,9 @@ returns-2 c =
     let f = finished r in
     let same = matched .enum-told2 .given .1 in
     let runs = ended-runs format (readerIn (b f) .phase) (accepted-answer _ _ (answered r) same) in
-    let shows = shown-in (out f) (subst Bytes (sym (f .finish .ensures)) (back f .bytes)) (formed f) (subst (λ (q : ImageReader). Runs format (q .phase)) (sym (same-reader f)) runs)
+    let shows =
+    shown-in (out f) (subst Bytes (sym (f .finish .ensures)) (back f .bytes)) (formed f)
+    (subst (λ (q : ImageReader). Runs format (q .phase)) (sym (same-reader f)) runs)
     ∙ ap (λ (q : ImageReader). shown format (q .phase)) (same-reader f) in (
       answered r,
       (f .finish .ensures, accepted-changed _ _ (answered r) same _ (showed .show .ensures ∙ ap (put (now (start f .args .buffer)) 0) shows)),

@@ -6,7 +6,10 @@ use Prim.Native.Nat.{ℕ, _<_}
 use native.Mathlib.Omega.{arith}
 use denote.Ref.{now}
 use Rattle.word.specs.Part.{Bytes}
-use Rattle.reader.specs.Layout.{numberIn, placeIn}
+use Rattle.refusal.specs.Refusals.{refused}
+use Rattle.pieces.specs.Traces.{verdict}
+use Rattle.reader.specs.Formats.{format}
+use Rattle.reader.specs.Layout.{numberIn, placeIn, readerIn}
 use Rattle.receive.proofs.Refusals.{no-refusal, numbered, refusal-is}
 use Rattle.receive.proofs.remembered.Statement.{statement}
 use Rattle.receive.proofs.remembered.Tie as tie
@@ -31,6 +34,11 @@ module _ (c : tie.After-number2) where
   some : {n : ℕ} → c .number2 .result ≡ n → 0 < n → numberIn b ≡ 0 → ⊥
   some e l z = omega (arith, number)
 
+  -- one of 1 to 4
+  by-number : {n : ℕ} → c .number2 .result ≡ n → 0 < n → n < 5 → refused n 0 ≡ verdict format (readerIn b .phase)
+  by-number e l m =
+      refusal-is b bytes (start .pre) (some e l) (sym e ∙ number) (sym (numbered b bytes (start .pre) (some e l) .first (omega (arith, number))))
+
 number-requires : tie.Need-number-requires
 number-requires c κs = search needs
 
@@ -41,20 +49,16 @@ returns : tie.Need-returns
 returns c = no-refusal (b (c .before)) (sym (number (c .before)) ∙ c .match .keys1)
 
 returns-2 : tie.Need-returns-2
-returns-2 c = refusal-is (b (c .before)) (bytes (c .before)) (start (c .before) .pre) (some (c .before) (c .match .keys2) (omega arith))
-    (sym (c .match .keys2) ∙ number (c .before)) (sym (numbered (b (c .before)) (bytes (c .before)) (start (c .before) .pre) (some (c .before) (c .match .keys2) (omega arith)) .first (omega (arith, c .match .keys2, number (c .before)))))
+returns-2 c = by-number (c .before) (c .match .keys2) (omega arith) (omega arith)
 
 returns-3 : tie.Need-returns-3
-returns-3 c = refusal-is (b (c .before)) (bytes (c .before)) (start (c .before) .pre) (some (c .before) (c .match .keys3) (omega arith))
-    (sym (c .match .keys3) ∙ number (c .before)) (sym (numbered (b (c .before)) (bytes (c .before)) (start (c .before) .pre) (some (c .before) (c .match .keys3) (omega arith)) .first (omega (arith, c .match .keys3, number (c .before)))))
+returns-3 c = by-number (c .before) (c .match .keys3) (omega arith) (omega arith)
 
 returns-4 : tie.Need-returns-4
-returns-4 c = refusal-is (b (c .before)) (bytes (c .before)) (start (c .before) .pre) (some (c .before) (c .match .keys4) (omega arith))
-    (sym (c .match .keys4) ∙ number (c .before)) (sym (numbered (b (c .before)) (bytes (c .before)) (start (c .before) .pre) (some (c .before) (c .match .keys4) (omega arith)) .first (omega (arith, c .match .keys4, number (c .before)))))
+returns-4 c = by-number (c .before) (c .match .keys4) (omega arith) (omega arith)
 
 returns-5 : tie.Need-returns-5
-returns-5 c = refusal-is (b (c .before)) (bytes (c .before)) (start (c .before) .pre) (some (c .before) (c .match .keys5) (omega arith))
-    (sym (c .match .keys5) ∙ number (c .before)) (sym (numbered (b (c .before)) (bytes (c .before)) (start (c .before) .pre) (some (c .before) (c .match .keys5) (omega arith)) .first (omega (arith, c .match .keys5, number (c .before)))))
+returns-5 c = by-number (c .before) (c .match .keys5) (omega arith) (omega arith)
 
 returns-6 : tie.Need-returns-6
 returns-6 c =
