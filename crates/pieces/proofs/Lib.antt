@@ -4,6 +4,7 @@ pub mod Places
 pub mod Feeds
 pub mod Stretch
 pub mod Sound
+pub mod Handed
 pub mod Receiving
 pub mod Pushed
 pub mod Answers

@@ -13,7 +13,7 @@ use Rattle.pieces.specs.Traces.{Phase, heading, counting, passing, broken, show
 use Rattle.pieces.specs.Sound.{SoundAt}
 use Rattle.pieces.proofs.Theorem.{Stays, end-twice, refused-stays}
 use Rattle.image.specs.Editions.{maxSize}
-use Rattle.reader.specs.Formats.{format, radio, ImageReader}
+use Rattle.reader.specs.Formats.{format, images, ImageReader}
 use Rattle.reader.specs.Layout.{readerSize, bytesOf, readerIn}
 use Rattle.reader.specs.WellFormed.{Fault, SoundReader}
 use Rattle.receive.specs.Calls.{refuses, lentVerdict, fedBy, feedVerdict, feedReader, endedBy, endVerdict, endReader, endBuffer}
@@ -47,8 +47,8 @@ module _ (b buffer : List ℕ) (r : Ready b buffer) where
 
   ended-again : endedBy left ≡ endedBy b
   ended-again =
-      ap (λ (x : ImageReader). reader radio (ended format (x .phase)) []) (end-holds r)
-      ∙ ap (λ (p : Phase format). reader radio p []) (end-twice format (readerIn b .phase))
+      ap (λ (x : ImageReader). reader images (ended format (x .phase)) []) (end-holds r)
+      ∙ ap (λ (p : Phase format). reader images p []) (end-twice format (readerIn b .phase))
 
   again : (other : List ℕ) → length other ≡ maxSize → Ready left other
   again other long = let s = end-stays b (r .bytes) (r .formed) buffer in record { formed = s .formed; bytes = s .bytes; long = long }
@@ -103,14 +103,14 @@ module _ (x : ImageReader) (sound : SoundReader x) (n t p : ℕ) (e : verdict fo
   stays-so : Stays format (x .phase)
   stays-so = refused-stays format (x .phase) n t p e
 
-  bare-so : x ≡ reader radio (x .phase) []
-  bare-so = ap (reader radio (x .phase)) (refused-bare (x .phase) (x .got) n t p sound e)
+  bare-so : x ≡ reader images (x .phase) []
+  bare-so = ap (reader images (x .phase)) (refused-bare (x .phase) (x .got) n t p sound e)
 
-  fed-so : (chunk : List ℕ) → fedBy b chunk .reader ≡ reader radio (x .phase) []
-  fed-so chunk = ap (λ (y : ImageReader). feed radio y chunk .reader) (w .back ∙ bare-so) ∙ ap (λ (o : Fed ImageReader). o .reader) (stays-so .feeds chunk)
+  fed-so : (chunk : List ℕ) → fedBy b chunk .reader ≡ reader images (x .phase) []
+  fed-so chunk = ap (λ (y : ImageReader). feed images y chunk .reader) (w .back ∙ bare-so) ∙ ap (λ (o : Fed ImageReader). o .reader) (stays-so .feeds chunk)
 
-  ended-so : endedBy b ≡ reader radio (x .phase) []
-  ended-so = ap (λ (y : ImageReader). reader radio (ended format (y .phase)) []) (w .back) ∙ ap (λ (q : Phase format). reader radio q []) (stays-so .ends)
+  ended-so : endedBy b ≡ reader images (x .phase) []
+  ended-so = ap (λ (y : ImageReader). reader images (ended format (y .phase)) []) (w .back) ∙ ap (λ (q : Phase format). reader images q []) (stays-so .ends)
 
   ready-so : (buffer : List ℕ) → length buffer ≡ maxSize → Ready b buffer
   ready-so buffer long = record { formed = w .formed; bytes = w .bytes; long = long }

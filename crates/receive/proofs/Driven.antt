@@ -15,12 +15,12 @@ use Rattle.pieces.specs.Traces.{shown}
 use Rattle.pieces.specs.Claim.{whole}
 use Rattle.pieces.proofs.Receiving.{Alike, DrivenAlike, drive-alike}
 use Rattle.image.specs.Editions.{maxSize}
-use Rattle.reader.specs.Formats.{format, radio, ImageReader}
+use Rattle.reader.specs.Formats.{format, images, ImageReader}
 use Rattle.reader.specs.Layout.{bytesOf, readerIn}
 use Rattle.receive.specs.Calls.{newReader, fedBy, feedVerdict}
 use Rattle.receive.specs.Receivers.{Lent, lent, calls, receives, fromNew}
 use Rattle.reader.proofs.RoundTrip.{reads}
-use Rattle.receive.proofs.Handed.{feed-runs, runs-passes}
+use Rattle.pieces.proofs.Handed.{feed-runs, runs-passes}
 use Rattle.receive.proofs.Ready.{Ready, new-ready, new-holds, feed-stays, feed-verdict, fed-holds, feed-shows, feed-long}
 
 -- ---- the two numbers
@@ -83,7 +83,7 @@ view d = readerIn (d .reader)
 abbrev pub Held : Lent → Type 0
 Held d = Ready (d .reader) (d .buffer)
 
-alike : (d : Lent) (c : List ℕ) → Held d → Bytes c → Alike (callsOf radio) calls view Held d c
+alike : (d : Lent) (c : List ℕ) → Held d → Bytes c → Alike (callsOf images) calls view Held d c
 alike d c r bytes =
     let b : List ℕ = d .reader in
     let o : Fed ImageReader = fedBy b c in
@@ -102,10 +102,10 @@ alike d c r bytes =
 
 -- so is what a receiver has, from a new reader on
 module _ (buffer : List ℕ) (long : length buffer ≡ maxSize) where
-  pub driven : (cs : List (List ℕ)) → AllBytes cs → DrivenAlike (callsOf radio) calls view Held (fromNew buffer cs) (whole format cs)
+  pub driven : (cs : List (List ℕ)) → AllBytes cs → DrivenAlike (callsOf images) calls view Held (fromNew buffer cs) (whole format cs)
   driven cs bytes =
-      subst (λ (x : ImageReader). DrivenAlike (callsOf radio) calls view Held (fromNew buffer cs) (drive (callsOf radio) x cs)) new-holds
-      (drive-alike (callsOf radio) calls view Held alike (lent newReader buffer) cs (new-ready buffer long) bytes)
+      subst (λ (x : ImageReader). DrivenAlike (callsOf images) calls view Held (fromNew buffer cs) (drive (callsOf images) x cs)) new-holds
+      (drive-alike (callsOf images) calls view Held alike (lent newReader buffer) cs (new-ready buffer long) bytes)
 
   left : (cs : List (List ℕ)) → AllBytes cs → fromNew buffer cs .reader .reader ≡ bytesOf (whole format cs .reader)
   left cs bytes =

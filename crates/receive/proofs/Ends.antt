@@ -8,7 +8,7 @@ use Rattle.word.specs.Part.{Bytes}
 use Rattle.pieces.specs.Reading.{reader}
 use Rattle.pieces.specs.Traces.{Phase, passing, broken, ended}
 use Rattle.image.specs.Header.{headerSize, systemOf}
-use Rattle.reader.specs.Formats.{format, radio, ImageReader, eventsEnd, imageEnd}
+use Rattle.reader.specs.Formats.{format, images, ImageReader, eventsEnd, imageEnd}
 use Rattle.reader.specs.Layout.{laid, laidPhase, bytesOf, takenIn, headerIn, numberIn, stateIn, readerIn}
 use Rattle.reader.specs.WellFormed.{WellFormed}
 use Rattle.receive.specs.Calls.{endedBy}
@@ -27,11 +27,11 @@ ended-whole h s n e = ap (λ (m : ℕ). ended format (passing h s m)) e
 
 module _ (b : List ℕ) (bytes : Bytes b) (w : WellFormed b) where
   -- the reader after the end, where the reader before is in this phase
-  by-phase : {r : ImageReader} {p : Phase format} → readerIn b ≡ r → ended format (r .phase) ≡ p → bytesOf (reader radio p []) ≡ bytesOf (endedBy b)
+  by-phase : {r : ImageReader} {p : Phase format} → readerIn b ≡ r → ended format (r .phase) ≡ p → bytesOf (reader images p []) ≡ bytesOf (endedBy b)
   by-phase e q =
       sym
-      (ap (λ (s : ImageReader). bytesOf (reader radio (ended format (s .phase)) [])) e
-      ∙ ap (λ (x : Phase format). bytesOf (reader radio x [])) q)
+      (ap (λ (s : ImageReader). bytesOf (reader images (ended format (s .phase)) [])) e
+      ∙ ap (λ (x : Phase format). bytesOf (reader images x [])) q)
 
   pub refused-ends : (numberIn b ≡ 0 → ⊥) → b ≡ bytesOf (endedBy b)
   unfolding laidPhase ended

@@ -5,7 +5,6 @@ pub mod HeaderTurns
 pub mod Taken
 pub mod EventTurns
 pub mod PassTurns
-pub mod Handed
 pub mod Shown
 pub mod Ends
 pub mod Ready

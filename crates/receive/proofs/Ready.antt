@@ -27,7 +27,7 @@ use Rattle.receive.specs.Calls.{endedBy, endVerdict, endReader, endBuffe
 use Rattle.reader.proofs.Heads.{faults, sound-laws, sound-starts}
 use Rattle.reader.proofs.Written.{Writes}
 use Rattle.reader.proofs.RoundTrip.{reads, writes}
-use Rattle.receive.proofs.Handed.{Runs, runs-passes, feed-runs, ended-runs}
+use Rattle.pieces.proofs.Handed.{Runs, runs-passes, feed-runs, ended-runs}
 
 -- ---- 9
 

@@ -23,7 +23,7 @@ use Rattle.image.specs.Verdicts.{ValidTrace}
 use Rattle.image.proofs.Accepted.{trace-passed, trace-replayable}
 use Rattle.image.proofs.Headers.{Headed, passed-header}
 use Rattle.image.proofs.Laws.{laws}
-use Rattle.reader.specs.Formats.{zeros, format, radio, ImageReader}
+use Rattle.reader.specs.Formats.{zeros, format, images, ImageReader}
 use Rattle.receive.specs.Calls.{endVerdict}
 use Rattle.receive.specs.Receivers.{Lent, calls, fromNew, firstFault, Replays, Receives}
 use Rattle.image_replay.specs.Replays.{finalSnapshot}
@@ -42,7 +42,7 @@ module _ (image buffer : List ℕ) (chunks : List (List ℕ)) (bytes : Bytes ima
   all-bytes : (cs : List (List ℕ)) → join cs ≡ image → AllBytes cs
   all-bytes cs q = chunks-bytes cs (rw q bytes)
 
-  abbrev same : DrivenAlike (callsOf radio) calls view Held o (whole format chunks)
+  abbrev same : DrivenAlike (callsOf images) calls view Held o (whole format chunks)
   same = driven buffer long chunks (all-bytes chunks e)
 
   abbrev p : Phase format

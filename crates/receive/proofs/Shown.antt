@@ -10,7 +10,7 @@ use Rattle.image.specs.Header.{headerSize}
 use Rattle.reader.specs.Formats.{format, ImageReader, eventsEnd}
 use Rattle.reader.specs.Layout.{takenIn, headerIn, numberIn, snapshotIn, readerIn}
 use Rattle.reader.specs.WellFormed.{WellFormed}
-use Rattle.receive.proofs.Handed.{Runs}
+use Rattle.pieces.proofs.Handed.{Runs}
 use Rattle.reader.proofs.Views.{heading-view, opened-view, counting-view, passing-view, broken-view}
 
 module _ (b : List ℕ) (bytes : Bytes b) (w : WellFormed b) where

@@ -9,7 +9,7 @@ use Rattle.refusal.specs.Refusals.{Answer, refused, given, _andThen_, changedIf
 use Rattle.pieces.specs.Reading.{Fed, reader, feed}
 use Rattle.pieces.specs.Traces.{verdict, ended, fresh, shown}
 use Rattle.image.specs.Editions.{maxSize}
-use Rattle.reader.specs.Formats.{format, radio, ImageReader}
+use Rattle.reader.specs.Formats.{format, images, ImageReader}
 use Rattle.reader.specs.Layout.{bytesOf, readerIn}
 use Rattle.reader.specs.WellFormed.{formed}
 
@@ -30,7 +30,7 @@ lentVerdict b buffer = cond (refuses b buffer) (refused 9 0) (given tt)
 
 -- what it comes to, of a well-formed reader
 abbrev pub fedBy : (b chunk : List ℕ) → Fed ImageReader
-fedBy b chunk = feed radio (readerIn b) chunk
+fedBy b chunk = feed images (readerIn b) chunk
 
 -- the answer: 9, or the first refusal of the trace, from here on or remembered
 unfoldable pub feedVerdict : (b chunk buffer : List ℕ) → Answer Unit
@@ -54,7 +54,7 @@ feedTaken b chunk buffer taken =
 -- ---- the end
 
 abbrev pub endedBy : List ℕ → ImageReader
-endedBy b = reader radio (ended format (readerIn b .phase)) []
+endedBy b = reader images (ended format (readerIn b .phase)) []
 
 unfoldable pub endVerdict : (b buffer : List ℕ) → Answer Unit
 endVerdict b buffer = lentVerdict b buffer andThen verdict format (endedBy b .phase)

@@ -14,7 +14,7 @@ use Rattle.reader.specs.WellFormed.{WellFormed}
 use Rattle.receive.specs.Calls.{endedBy}
 use Rattle.reader.proofs.Written.{Writes}
 use Rattle.reader.proofs.RoundTrip.{writes}
-use Rattle.receive.proofs.Handed.{Runs, ended-runs}
+use Rattle.pieces.proofs.Handed.{Runs, ended-runs}
 use Rattle.receive.proofs.Shown.{shown-in}
 use Rattle.receive.proofs.Ready.{end-sound}
 use Rattle.receive.proofs.end_formed.Statement.{statement}

@@ -14,7 +14,7 @@ use Rattle.reader.specs.Formats.{format, ImageReader}
 use Rattle.reader.specs.Layout.{bytesOf, headerIn, snapshotIn, readerIn}
 use Rattle.receive.specs.Calls.{fedBy}
 use Rattle.reader.proofs.RoundTrip.{reads}
-use Rattle.receive.proofs.Handed.{Runs, feed-runs}
+use Rattle.pieces.proofs.Handed.{Runs, feed-runs}
 use Rattle.receive.proofs.Shown.{shown-in}
 use Rattle.receive.proofs.feed_formed.Statement.{statement}
 use Rattle.receive.proofs.feed_formed.Tie as tie
