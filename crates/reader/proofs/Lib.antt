@@ -1,4 +1,5 @@
 -- The laws of the reader in bytes.
+pub mod Padded
 pub mod Laid
 pub mod Heads
 pub mod Split

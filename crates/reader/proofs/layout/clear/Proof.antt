@@ -5,7 +5,7 @@ use Prim.Native.Nat.{_-_}
 use native.Mathlib.Omega.{arith}
 use denote.Ref.{now}
 use Rattle.word.specs.Part.{put}
-use Rattle.reader.proofs.Laid.{front-zeros}
+use Rattle.reader.proofs.Padded.{front-zeros}
 use Rattle.reader.proofs.layout.clear.Statement.{statement}
 use Rattle.reader.proofs.layout.clear.Tie as tie
 

@@ -8,7 +8,7 @@ use denote.Ref.{now}
 use Rattle.word.specs.Part.{part}
 use Rattle.word.specs.Same.{sameBytes}
 use Rattle.reader.specs.WellFormed.{blank}
-use Rattle.reader.proofs.Laid.{front-zeros}
+use Rattle.reader.proofs.Padded.{front-zeros}
 use Rattle.reader.proofs.layout.is_blank.Statement.{statement}
 use Rattle.reader.proofs.layout.is_blank.Tie as tie
 
