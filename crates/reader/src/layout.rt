@@ -1,11 +1,9 @@
 // The reader's bytes: where its parts stand, and these read and written.
 use image::edition;
 use image::edition::Edition;
-use image::edition::MAX_SIZE;
 use image::edition::edition_at;
 use image::header;
 use refusal::Verdict;
-use snapshot::EVENT_SIZE;
 use word::bytes;
 use word::parts::copy_over;
 use word::parts::same;

@@ -4,6 +4,7 @@ pub mod Turning
 pub mod HeaderTurns
 pub mod Taken
 pub mod EventTurns
+pub mod StretchTurns
 pub mod PassTurns
 pub mod Shown
 pub mod Ends

@@ -1,16 +1,16 @@
 -- The remembered refusal, as the two numbers in the bytes tell it.
 use mathlib.Core.Path.{_≡_, refl, sym, ap, ap₂, _∙_}
-use mathlib.Core.Bool.{Bool, true, false, cond, _&&_, and-eq-true-iff}
+use mathlib.Core.Bool.{Bool, true, false, _&&_, and-eq-true-iff}
 use mathlib.Core.List.{List}
 use Prim.Native.Nat.{ℕ, _≤_, _<_}
 use native.Mathlib.Omega.{arith}
-use borrow.Author.Tests.{eq-eqb, ne-eqb, eqb-true, ltb-true}
+use borrow.Author.Tests.{eq-eqb, eqb-true, ltb-true}
 use lib.Dec.{eqb, ltb}
 use Rattle.word.specs.Part.{Bytes}
 use Rattle.word.proofs.Branches.{cond-cases}
-use Rattle.refusal.specs.Refusals.{Answer, refused, given}
+use Rattle.refusal.specs.Refusals.{refused, given}
 use Rattle.pieces.specs.Traces.{verdict}
-use Rattle.image.specs.Header.{headerSize, maxEvents}
+use Rattle.image.specs.Header.{headerSize}
 use Rattle.reader.specs.Formats.{format, ImageReader, eventsEnd}
 use Rattle.reader.specs.Layout.{takenIn, headerIn, numberIn, placeIn, openedIn, readerIn}
 use Rattle.reader.specs.WellFormed.{fault, Fault, WellFormed}

@@ -1,11 +1,11 @@
 -- The snapshot that stands in the reader is what its phase shows, where it has a state.
-use mathlib.Core.Path.{_≡_, refl, sym, ap, _∙_, subst}
+use mathlib.Core.Path.{_≡_, sym, ap, _∙_, subst}
 use mathlib.Core.List.{List}
 use Prim.Native.Nat.{ℕ, _≤_, _<_}
 use native.Mathlib.Decide.{decLt, ℕ-discrete}
 use native.Mathlib.Omega.{arith}
 use Rattle.word.specs.Part.{Bytes}
-use Rattle.pieces.specs.Traces.{Phase, shown}
+use Rattle.pieces.specs.Traces.{shown}
 use Rattle.image.specs.Header.{headerSize}
 use Rattle.reader.specs.Formats.{format, ImageReader, eventsEnd}
 use Rattle.reader.specs.Layout.{takenIn, headerIn, numberIn, snapshotIn, readerIn}

@@ -1,6 +1,6 @@
 -- `receive::end_formed` meets its contract: what the end leaves of the reader, and what is told of it.
 use borrow.Author.Needs.{needs}
-use mathlib.Core.Path.{_≡_, refl, sym, ap, ap₂, _∙_, subst}
+use mathlib.Core.Path.{_≡_, sym, ap, _∙_, subst}
 use mathlib.Core.List.{List}
 use Prim.Native.Nat.{ℕ}
 use denote.Ref.{now}
@@ -9,7 +9,7 @@ use Rattle.refusal.specs.Refusals.{verdictOf}
 use Rattle.refusal.proofs.Answers.{refused-kept, accepted-answer, accepted-changed}
 use Rattle.pieces.specs.Traces.{verdict, shown}
 use Rattle.reader.specs.Formats.{format, ImageReader}
-use Rattle.reader.specs.Layout.{bytesOf, headerIn, snapshotIn, readerIn}
+use Rattle.reader.specs.Layout.{readerIn}
 use Rattle.reader.specs.WellFormed.{WellFormed}
 use Rattle.receive.specs.Calls.{endedBy}
 use Rattle.reader.proofs.Written.{Writes}

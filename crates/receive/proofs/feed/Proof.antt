@@ -1,9 +1,8 @@
 -- `receive::feed` meets its contract: 9 leaves everything, and what is not refused by it is taken.
 use borrow.Author.Needs.{needs}
 use mathlib.Core.Path.{_≡_, sym, ap, _∙_, subst}
-use mathlib.Core.List.{List, [], _∷_}
+use mathlib.Core.List.{[], _∷_}
 use mathlib.Core.Bool.{cond}
-use Prim.Native.Nat.{ℕ}
 use denote.Ref.{now}
 use Rattle.word.specs.Part.{Bytes, put}
 use Rattle.refusal.specs.Refusals.{Answer, given, changedIf, Placed, _andThen_}

@@ -1,13 +1,13 @@
 -- `receive::finish` meets its contract: a refusal that is remembered stays, bytes that are missing are refused, and nothing else moves.
 use borrow.Author.Needs.{needs}
-use mathlib.Core.Path.{_≡_, refl, sym, ap, ap₂, _∙_, subst}
+use mathlib.Core.Path.{_≡_, sym, _∙_}
 use mathlib.Core.List.{List}
 use Prim.Native.Nat.{ℕ, _≤_}
 use native.Mathlib.Omega.{arith}
 use denote.Ref.{now}
 use Rattle.word.specs.Part.{Bytes}
 use Rattle.image.specs.Header.{headerSize}
-use Rattle.reader.specs.Layout.{takenIn, numberIn, headerIn}
+use Rattle.reader.specs.Layout.{takenIn, numberIn}
 use Rattle.reader.proofs.Views.{opened-view}
 use Rattle.receive.proofs.Ends.{refused-ends, heading-ends, short-ends, whole-ends}
 use Rattle.receive.proofs.finish.Statement.{statement}

@@ -1,6 +1,5 @@
 -- `receive::lent_verdict` meets its contract: the tests are the definition's.
 use borrow.Author.Needs.{needs}
-use mathlib.Core.Path.{_≡_, sym, ap, ap₂, _∙_}
 use Rattle.receive.specs.Calls.{lentVerdict}
 use Rattle.receive.proofs.lent_verdict.Statement.{statement}
 use Rattle.receive.proofs.lent_verdict.Tie as tie

@@ -1,6 +1,6 @@
 -- `receive::new` meets its contract: a fresh reader is all zeros.
 use borrow.Author.Needs.{needs}
-use mathlib.Core.Path.{_≡_, sym, ap, _∙_}
+use mathlib.Core.Path.{sym, _∙_}
 use denote.Ref.{now}
 use Rattle.word.proofs.Part.{put-whole}
 use Rattle.reader.specs.Formats.{zeros}

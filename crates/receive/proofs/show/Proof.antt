@@ -1,6 +1,6 @@
 -- `receive::show` meets its contract: as many bytes as the header's edition has.
 use borrow.Author.Needs.{needs}
-use mathlib.Core.Path.{_≡_, refl, sym, ap, ap₂, _∙_, subst}
+use mathlib.Core.Path.{ap, _∙_}
 use Prim.Native.Nat.{ℕ}
 use denote.Ref.{now}
 use Rattle.word.specs.Part.{part, put}

@@ -1,8 +1,7 @@
 -- `reader::check::accepted_formed` meets its contract: the tests past the header's, one after the other.
 use borrow.Author.Needs.{needs}
-use mathlib.Core.Path.{_≡_, sym, ap, ap₂, _∙_}
+use mathlib.Core.Path.{ap, ap₂, _∙_}
 use mathlib.Core.Bool.{_&&_}
-use Prim.Native.Nat.{ℕ}
 use lib.Dec.{leb}
 use Rattle.word.specs.Part.{part}
 use Rattle.image.specs.declared.edition.Edition.{Edition}

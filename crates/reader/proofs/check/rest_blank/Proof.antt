@@ -1,6 +1,6 @@
 -- `reader::check::rest_blank` meets its contract: the three tests, one after the other.
 use borrow.Author.Needs.{needs}
-use mathlib.Core.Path.{_≡_, sym, ap, ap₂, _∙_}
+use mathlib.Core.Path.{ap₂}
 use mathlib.Core.Bool.{_&&_}
 use Rattle.reader.specs.WellFormed.{restBlank}
 use Rattle.reader.proofs.check.rest_blank.Statement.{statement}

@@ -2,7 +2,7 @@
 use borrow.Author.Needs.{needs}
 use Rattle.image.specs.Header.{headerSize}
 use Rattle.reader.specs.Layout.{takenIn, headerIn}
-use mathlib.Core.Path.{_≡_, sym, ap, ap₂, _∙_}
+use mathlib.Core.Path.{ap, _∙_}
 use Prim.Native.Nat.{ℕ}
 use native.Mathlib.Omega.{arith}
 use borrow.Author.Tests.{lt-ltb, le-ltb}

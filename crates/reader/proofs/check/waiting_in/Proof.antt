@@ -2,7 +2,6 @@
 use borrow.Author.Needs.{needs}
 use Rattle.reader.specs.Formats.{eventsEnd}
 use Rattle.reader.specs.Layout.{headerIn}
-use mathlib.Core.Path.{_≡_, sym, ap, ap₂, _∙_}
 use borrow.Author.Tests.{lt-ltb, le-ltb}
 use native.Mathlib.Omega.{arith}
 use Rattle.reader.proofs.check.waiting_in.Statement.{statement}

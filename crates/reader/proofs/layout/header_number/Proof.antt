@@ -1,6 +1,6 @@
 -- `reader::layout::header_number` meets its contract: a number of the header is one of the reader, past the header's place.
 use borrow.Author.Needs.{needs}
-use mathlib.Core.Path.{_≡_, sym, ap, _∙_}
+use mathlib.Core.Path.{sym, ap, _∙_}
 use native.Mathlib.Omega.{arith}
 use denote.Ref.{now}
 use Rattle.word.specs.LittleEndian.{ofBytes}

@@ -1,6 +1,6 @@
 -- `reader::layout::image_end` meets its contract: the header's numbers are within their limits, so the image's end is small.
 use borrow.Author.Needs.{needs}
-use mathlib.Core.Path.{_≡_, sym, ap, _∙_}
+use mathlib.Core.Path.{_≡_, ap, _∙_}
 use mathlib.Core.List.{List}
 use Prim.Native.Nat.{ℕ, _+_, _*_, _/_, _^_, _≤_, _<_}
 use native.Mathlib.Nat.{div-le-self, mul-le-mul}
@@ -8,7 +8,7 @@ use native.Mathlib.Omega.{arith}
 use Rattle.snapshot.specs.Widths.{eventSize}
 use Rattle.image.specs.declared.edition.Edition.{Edition}
 use Rattle.image.specs.Editions.{system, maxSize}
-use Rattle.image.specs.Header.{headerSize, maxEvents, eventCount, spacingOf}
+use Rattle.image.specs.Header.{headerSize, maxEvents}
 use Rattle.image.proofs.Headers.{Headed, header-passed}
 use Rattle.reader.specs.Formats.{imageEnd}
 use Rattle.reader.specs.Layout.{headerIn}
