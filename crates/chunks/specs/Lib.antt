@@ -1,0 +1,2 @@
+-- Document 02, request 5: a chunk taken by turns.
+pub mod Turns
