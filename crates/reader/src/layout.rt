@@ -11,7 +11,7 @@ ghost use mathlib.Core.Path.{_≡_};
 ghost use mathlib.Core.List.{[]};
 ghost use Prim.Native.Nat.{_+_, _^_, _≤_, _<_};
 ghost use lib.ListN.{length};
-ghost use Rattle.word.specs.Part.{part, put};
+ghost use Rattle.word.specs.Part.{put};
 ghost use Rattle.word.specs.LittleEndian.{toBytes, numberAt};
 ghost use Rattle.refusal.specs.Refusals.{verdictOf, given};
 ghost use Rattle.image.specs.Header.{headerSize, editionOf, headerVerdict};
@@ -89,15 +89,6 @@ pub fn clear(reader: &mut [u8], at: usize, n: usize)
 {
     let none = [0u8; SIZE];
     copy_over(reader, at, &none[0..n]);
-}
-
-// The n bytes of src from byte from on over those of dst from byte at on.
-pub fn copy_part(dst: &mut [u8], at: usize, src: &[u8], from: usize, n: usize)
-    requires { ⌜ (at + n ≤ length (now dst)) × (from + n ≤ length (now src)) ⌝ }
-    ensures { λ _. ⌜ now (dst .exit) ≡ put (now (dst .entry)) at (part (now (src .entry)) from n) ⌝ }
-{
-    let end = from + n;
-    copy_over(dst, at, &src[from..end]);
 }
 
 // A refusal over all else.

@@ -11,6 +11,7 @@ use counter::state::Counter;
 use counter::stepping;
 use word::bytes;
 use word::parts::copy_over;
+use word::parts::copy_part;
 ghost use mathlib.Core.Path.{_≡_};
 ghost use mathlib.Core.List.{[], _∷_};
 ghost use Prim.Native.Nat.{_+_, _≤_};
@@ -85,8 +86,7 @@ fn copy_snapshot(image: &[u8], at: usize, s: &mut [u8])
     requires { ⌜ (at + snapshotSize ≤ length (now image)) × (length (now s) ≡ snapshotSize) ⌝ }
     ensures { λ _. ⌜ now (s .exit) ≡ part (now (image .entry)) at snapshotSize ⌝ }
 {
-    let end = at + SNAPSHOT_SIZE;
-    copy_over(s, 0, &image[at..end]);
+    copy_part(s, 0, image, at, SNAPSHOT_SIZE);
 }
 
 // The state in the snapshot from byte at of an image, over both. Its bytes are copied as they are.

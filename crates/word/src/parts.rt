@@ -2,7 +2,7 @@
 ghost use mathlib.Core.Path.{_≡_};
 ghost use Prim.Native.Nat.{_+_, _≤_, min};
 ghost use lib.ListN.{length};
-ghost use Rattle.word.specs.Part.{put};
+ghost use Rattle.word.specs.Part.{part, put};
 ghost use Rattle.word.specs.Same.{sameBytes};
 
 // The shorter of two lengths.
@@ -38,4 +38,13 @@ pub fn copy_over(dst: &mut [u8], at: usize, src: &[u8])
         dst[at + i] = src[i];
         i += 1;
     }
+}
+
+// The n bytes of src from byte from over those of dst from byte at.
+pub fn copy_part(dst: &mut [u8], at: usize, src: &[u8], from: usize, n: usize)
+    requires { ⌜ (at + n ≤ length (now dst)) × (from + n ≤ length (now src)) ⌝ }
+    ensures { λ _. ⌜ now (dst .exit) ≡ put (now (dst .entry)) at (part (now (src .entry)) from n) ⌝ }
+{
+    let end = from + n;
+    copy_over(dst, at, &src[from..end]);
 }

@@ -1,13 +1,13 @@
--- `reader::layout::copy_part` meets its contract: what is copied is the part that is lent.
+-- `word::parts::copy_part` meets its contract: what is copied is the part that is lent.
 use borrow.Author.Needs.{needs}
 use mathlib.Core.Path.{_≡_, ap, _∙_}
 use Prim.Native.Nat.{ℕ, _+_, _-_}
 use native.Mathlib.Omega.{arith}
 use lib.ListN.{take, drop}
 use denote.Ref.{now}
 use Rattle.word.specs.Part.{part, put}
-use Rattle.reader.proofs.layout.copy_part.Statement.{statement}
-use Rattle.reader.proofs.layout.copy_part.Tie as tie
+use Rattle.word.proofs.parts.copy_part.Statement.{statement}
+use Rattle.word.proofs.parts.copy_part.Tie as tie
 
 add-end : tie.Need-add-end
 add-end c = search needs
