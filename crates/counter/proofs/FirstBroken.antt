@@ -1,14 +1,18 @@
 -- The number of the first test that fails, by induction on the row of tests: it is one of the row's numbers, it stands where the tests before
--- it pass, and it is 0 where all pass.
-use mathlib.Core.Path.{_≡_, refl, _∙_}
+-- it pass, and it is 0 where all pass. Of two rows it is the first's, and the second's where all of the first pass.
+use mathlib.Core.Path.{_≡_, refl, ap, _∙_}
 use mathlib.Core.Logic.{_↔_, _⊎_, inl, inr, ⊎-elim}
-use mathlib.Core.Bool.{Bool, true, false, true≢false, false≢true}
-use mathlib.Core.List.{List, [], _∷_}
+use mathlib.Core.Bool.{Bool, true, false, cond, true≢false, false≢true}
+use mathlib.Core.List.{List, [], _∷_, _++_}
 use Prim.Native.Nat.{ℕ, zero, suc, _+_, _≤_, _<_}
 use native.Mathlib.Nat.{le-refl, le-of-suc-le-suc}
 use native.Mathlib.Omega.{arith}
+use borrow.Author.Tests.{ne-eqb}
+use lib.Dec.{eqb, lit<}
 use lib.ListN.{length, getD}
-use Rattle.counter.specs.Loading.{brokenFrom, First, AllPass}
+use Rattle.counter.specs.declared.state.Settings.{Settings}
+use Rattle.counter.specs.Parts.{modeOf}
+use Rattle.counter.specs.Loading.{rule1, rule2, rule6, presetRules, rules, brokenFrom, firstBroken, presetBroken, First, AllPass}
 
 pub broken-le : (n : ℕ) (bs : List Bool) → brokenFrom (suc n) bs ≤ n + length bs
 unfolding brokenFrom
@@ -63,3 +67,28 @@ first-exact n bs k h = (number-first n bs k h, first-number n bs k)
 
 pub pass-exact : (n : ℕ) (bs : List Bool) → 0 < n → (brokenFrom n bs ≡ 0) ↔ AllPass bs
 pass-exact n bs h = (number-pass n bs h, pass-number n bs)
+
+-- ---- two rows
+
+broken-append : (n : ℕ) (bs cs : List Bool) → 0 < n
+    → brokenFrom n (bs ++ cs) ≡ cond (eqb (brokenFrom n bs) 0) (brokenFrom (n + length bs) cs) (brokenFrom n bs)
+unfolding brokenFrom
+broken-append n [] cs h = ap (λ (k : ℕ). brokenFrom k cs) (omega arith)
+broken-append n (true ∷ bs) cs h =
+    let number : ℕ = brokenFrom (suc n) bs in
+    broken-append (suc n) bs cs (omega arith) ∙ ap (λ (k : ℕ). cond (eqb number 0) (brokenFrom k cs) number) (omega arith)
+broken-append n (false ∷ bs) cs h = rw (ne-eqb n 0 (λ e. omega arith))
+
+-- ---- the rules
+
+pub passes-all : (s : Settings) → firstBroken s ≡ 0 → AllPass (rules s)
+unfolding firstBroken
+passes-all s h = pass-exact 1 (rules s) (lit< tt) .0 h
+
+-- all of them, by those of the presets
+pub first-presets : (s : Settings)
+    → firstBroken s
+    ≡ cond (rule1 (s .pfn))
+    (cond (rule2 (modeOf (s .mode))) (cond (eqb (presetBroken s s) 0) (cond (rule6 (s .omb)) 0 6) (presetBroken s s)) 2) 1
+unfolding firstBroken presetBroken brokenFrom
+first-presets s = rw (broken-append 3 (presetRules s s) (rule6 (s .omb) ∷ []) (lit< tt))

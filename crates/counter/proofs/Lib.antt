@@ -11,6 +11,7 @@ pub mod Interrupting
 pub mod Legal
 pub mod LoadEffects
 pub mod Loads
+pub mod Masked
 pub mod Modes
 pub mod Queue
 pub mod Raising

@@ -1,17 +1,19 @@
--- What an accepted and a rejected load leave, part by part: the flags go by the laws of setting and clearing one bit.
+-- What an accepted and a rejected load leave, part by part: the flags go by the laws of setting and clearing one bit. Enter run loads as SP
+-- does.
 use mathlib.Core.Path.{_≡_, refl, sym, ap, _∙_, subst}
 use mathlib.Core.Bool.{Bool, true, false, cond}
 use Prim.Native.Nat.{ℕ, _+_, _<_}
 use native.Mathlib.Omega.{arith}
 use borrow.Author.Tests.{ne-eqb}
-use lib.Dec.{lit<}
+use lib.Dec.{eqb, lit<}
 use Rattle.word.specs.Masks.{bit, setBit, clearBit}
 use Rattle.word.proofs.Masks.{bit-setBit, bit-clearBit}
 use Rattle.counter.specs.declared.state.Settings.{Settings}
 use Rattle.counter.specs.declared.state.Counter.{Counter}
-use Rattle.counter.specs.Parts.{flag, ED, LOADED, withActive, withEr, withFlags}
+use Rattle.counter.specs.Parts.{flag, on, AS, ED, FE, LOADED, withActive, withEr, withFlags}
 use Rattle.counter.specs.Loading.{firstBroken, rules, presetRules, First, AllPass, Untouched, Accepted, Rejected, accepted, rejected, load, presetBroken}
 use Rattle.counter.specs.Loading.{withPresets, presetAccepted, presetLoad}
+use Rattle.counter.specs.Events.{emptied, autoStart, enterRun}
 use Rattle.counter.proofs.Exact.{load-er, load-refused, load-accepted, preset-er, preset-refused, preset-accepted}
 
 -- setting or clearing flag n leaves flag m
@@ -89,3 +91,25 @@ module _ (c : Counter) where
   pub preset-idle : flag c LOADED ≡ false → presetLoad c ≡ c
   unfolding presetLoad
   preset-idle l = rw l
+
+-- ---- enter run
+
+start-loads : (c : Counter) → autoStart c ≡ cond (eqb (load c .er) 0) (on FE (load c)) (load c)
+unfolding autoStart load
+start-loads c = go (eqb broken 0) ∙ ap (λ (n : ℕ). cond (eqb n 0) (on FE (load c)) (load c)) (sym (load-er c))
+  where
+    broken : ℕ
+    broken = firstBroken (c .staged)
+
+    left : Bool → Counter
+    left accepts = cond accepts (accepted c) (rejected broken c)
+
+    go : (b : Bool) → cond b (on FE (accepted c)) (rejected broken c) ≡ cond b (on FE (left b)) (left b)
+    go true = refl
+    go false = refl
+
+-- with AS it loads as SP does, and FE is 1 if the load is accepted
+pub run-loads : (c : Counter) → flag c AS ≡ true
+    → enterRun c ≡ cond (eqb (load (emptied c) .er) 0) (on FE (load (emptied c))) (load (emptied c))
+unfolding enterRun
+run-loads c h = rw h (start-loads (emptied c))

@@ -2,7 +2,7 @@
 use mathlib.Core.Path.{_≡_, _∙_}
 use mathlib.Core.Bool.{true, false}
 use Prim.Native.Nat.{ℕ, _≤_, _<_, _^_}
-use native.Mathlib.Nat.{lt-of-le-of-lt}
+use native.Mathlib.Nat.{le-trans, lt-of-le-of-lt}
 use borrow.Author.Tests.{eqb-true}
 use lib.Dec.{eqb, lit<, lit≤}
 use Rattle.word.specs.Masks.{bit, setBit}
@@ -14,7 +14,7 @@ use Rattle.counter.specs.Parts.{flag, ED, LOADED, withActive, withFlags}
 use Rattle.counter.specs.Loading.{rules, ruleCount, presetRules, brokenFrom, AllPass, firstBroken, presetBroken, withoutError, accepted}
 use Rattle.counter.specs.Loading.{rejected, load, withPresets, presetAccepted, presetLoad}
 use Rattle.counter.specs.WellFormed.{SettingsTyped}
-use Rattle.counter.proofs.FirstBroken.{broken-le, pass-exact}
+use Rattle.counter.proofs.FirstBroken.{broken-le, passes-all, first-presets}
 use Rattle.counter.proofs.Changes.{Well}
 
 -- ---- the number of a broken rule
@@ -25,7 +25,7 @@ first-number s = broken-le 0 (rules s)
 
 preset-number : (s a : Settings) → presetBroken s a ≤ ruleCount
 unfolding presetBroken
-preset-number s a = broken-le 2 (presetRules s a)
+preset-number s a = le-trans (broken-le 2 (presetRules s a)) (lit≤ tt)
 
 -- ---- rejected
 
@@ -83,10 +83,10 @@ well-load c w =
 
 -- loaded settings with new presets that pass rules 3 to 5 pass all rules
 presets-pass : (s a : Settings) → firstBroken a ≡ 0 → presetBroken s a ≡ 0 → firstBroken (withPresets s a) ≡ 0
-unfolding firstBroken presetBroken brokenFrom
+unfolding presetBroken
 presets-pass s a h p =
-    let pass : AllPass (rules a) = pass-exact 1 (rules a) (lit< tt) .0 h in
-    rw (pass 0, pass 1) p
+    let pass : AllPass (rules a) = passes-all a h in
+    first-presets (withPresets s a) ∙ rw (pass 0, pass 1, p, pass 5)
 
 pub well-presets : (c : Counter) → Well c → flag c LOADED ≡ true → presetBroken (c .staged) (c .active) ≡ 0 → Well (presetAccepted c)
 well-presets c w l h =

@@ -1,15 +1,16 @@
 -- Document 01, "Loading settings": the rules in their order, and what an accepted and a rejected load leave.
 use mathlib.Core.Path.{_≡_}
 use mathlib.Core.Bool.{Bool, true, false, cond, not, _&&_, _||_}
-use mathlib.Core.List.{List, [], _∷_}
-use Prim.Native.Nat.{ℕ, suc, _<_}
+use mathlib.Core.List.{List, [], _∷_, _++_}
+use Prim.Native.Nat.{ℕ, suc, _^_, _<_}
 use lib.Dec.{eqb, ltb}
 use lib.ListN.{length, getD}
 use lib.IntN.{ℤ, pos}
 use lib.Signed.{ltZ, leZ}
 use Rattle.counter.specs.declared.state.Settings.{Settings}
 use Rattle.counter.specs.declared.state.Counter.{Counter}
-use Rattle.counter.specs.Parts.{withHip, withLop, withHpo, withLpo, withActive, withEr, flag, on, off, ED, LOADED, noSettings, modeOf, upOnly}
+use Rattle.counter.specs.Parts.{withHip, withLop, withOmb, withHpo, withLpo, withStaged, withActive, withEr}
+use Rattle.counter.specs.Parts.{flag, on, off, ED, LOADED, noSettings, modeOf, upOnly}
 
 -- ---- the rules, each as its row states it
 
@@ -33,6 +34,10 @@ rule4 hip ovf = leZ hip ovf
 abbrev pub rule5 : ℕ → ℤ → ℤ → Bool
 rule5 m lop unf = upOnly m || leZ unf lop
 
+-- 6: OMB has bits 0 to 11 only
+abbrev pub rule6 : ℕ → Bool
+rule6 omb = ltb omb (2 ^ 12)
+
 -- the tests of rules 3 to 5, in their order
 abbrev pub presetTests : ℕ → ℤ → ℤ → ℤ → ℤ → List Bool
 presetTests m hip lop ovf unf = rule3 m hip lop ∷ rule4 hip ovf ∷ rule5 m lop unf ∷ []
@@ -47,6 +52,7 @@ rules s =
     rule1 (s .pfn)
     ∷ rule2 (modeOf (s .mode))
     ∷ presetRules s s
+    ++ (rule6 (s .omb) ∷ [])
 
 -- how many rules there are, whatever the settings; ER is at most this
 abbrev pub ruleCount : ℕ
@@ -108,6 +114,10 @@ pub record First (tests : List Bool) (k : ℕ) : Type 0 where
 -- no test fails
 abbrev pub AllPass : List Bool → Type 0
 AllPass tests = (i : ℕ) → getD tests i true ≡ true
+
+-- the same counter with these masks staged and active
+abbrev pub withMasks : ℕ → ℕ → Counter → Counter
+withMasks v w c = withStaged (withOmb v (c .staged)) (withActive (withOmb w (c .active)) c)
 
 -- what every load leaves as it was: all parts but active, ER and the flags, and all flags but ED and LOADED
 pub record Untouched (c d : Counter) : Type 0 where

@@ -4,6 +4,9 @@ ghost use mathlib.Core.Path.{_≡_};
 ghost use Rattle.counter.specs.Interrupts.{presetWord, causeWord};
 ghost use Rattle.counter.specs.Events.{programWord};
 
+// Below this, bits 12-15 of a word are zero.
+pub const OUTPUTS_END: u16 = 0x1000;
+
 // A preset's word on the outputs in the mask, among bits 0 to 11.
 fn preset_word(omb: u16, word: u16, out: u16) -> u16
     ensures { λ r. ⌜ r ≡ presetWord omb word out ⌝ }

@@ -1,13 +1,14 @@
 // Loading settings: the rules in their order.
+use super::outputs::OUTPUTS_END;
 use super::state::Counter;
 use super::state::Settings;
 ghost use mathlib.Core.Path.{_≡_};
 ghost use mathlib.Core.Bool.{cond};
 ghost use Rattle.counter.specs.Parts.{modeOf, mode, upOnly};
-ghost use Rattle.counter.specs.Loading.{rule1, rule3, rule4, rule5, presetTests, brokenFrom, firstBroken, presetBroken};
+ghost use Rattle.counter.specs.Loading.{rule1, rule3, rule4, rule5, rule6, presetTests, brokenFrom, firstBroken, presetBroken};
 
 // How many rules there are.
-pub const COUNT: u16 = 5;
+pub const COUNT: u16 = 6;
 
 // MOD as a number, 8 for every value that is no mode.
 pub fn mode_of(mode: i16) -> u8
@@ -58,6 +59,12 @@ fn low_rule(m: u8, lop: i32, unf: i32) -> bool
     (m < 2) | (unf <= lop)
 }
 
+fn mask_rule(omb: u16) -> bool
+    ensures { λ r. ⌜ r ≡ rule6 omb ⌝ }
+{
+    omb < OUTPUTS_END
+}
+
 // The number n if its rule is broken, else the number that later rules give.
 fn broken_or(passes: bool, n: u16, later: u16) -> u16
     ensures { λ r. ⌜ r ≡ cond passes later n ⌝ }
@@ -85,7 +92,9 @@ pub fn preset_broken(s: Settings, a: Settings) -> u16
 pub fn first_broken(s: Settings) -> u16
     ensures { λ r. ⌜ r ≡ firstBroken s ⌝ }
 {
+    let mask = broken_or(mask_rule(s.omb), 6, 0);
     let presets = preset_broken(s, s);
-    let mode = broken_or(mode_of(s.mode) < 8, 2, presets);
+    let limits = broken_or(presets == 0, presets, mask);
+    let mode = broken_or(mode_of(s.mode) < 8, 2, limits);
     broken_or(routine_rule(s.pfn), 1, mode)
 }

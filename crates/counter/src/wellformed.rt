@@ -1,5 +1,6 @@
 // Well formed, by the parts of a state or the numbers in a snapshot's bytes.
 use super::flag;
+use super::outputs::OUTPUTS_END;
 use super::rules;
 use super::state::Settings;
 use word::bits;
@@ -8,9 +9,6 @@ ghost use Rattle.counter.specs.WellFormed.{isNone, causesFormed, errorFo
 
 // Below this, flag bits 20-31 are zero.
 const FLAGS_END: u32 = 0x10_0000;
-
-// Below this, output bits 12-15 are zero.
-const OUTPUTS_END: u16 = 0x1000;
 
 // The greatest levels.
 const LEVELS: u8 = 15;

@@ -6,6 +6,7 @@ use Prim.Native.Nat.{ℕ, zero, suc, _+_, _-_, _*_, _/_, _%_, _^_, _<_, _≤_, m
 use native.Mathlib.Nat.{one-mul, mul-comm, mod-eq-of-lt, mod-lt, mul-add-mod-self-right, pow-suc, sub-zero}
 use native.Mathlib.Nat.{div-div-eq-div-mul, div-one, zero-div, div-eq-of-lt, le-of-suc-le-suc, lt-of-le-of-lt, lt-of-lt-of-le}
 use native.Mathlib.Omega.{arith}
+use borrow.Author.Tests.{eqb-false}
 use lib.Bits.{bitAnd, bitOr, and-shr, or-shr, and-step, or-step, and-le-l, or-lt, and-mask}
 use lib.Dec.{eqb, eqb·suc-suc, eqb·zero-suc, eqb·suc-zero, lit<}
 use lib.Pow.{pow-lt, pow-mono, pow-pos}
@@ -116,6 +117,16 @@ bit-not (suc k) x (suc n) h b =
 pub bit-above : (w k n : ℕ) → w < 2 ^ k → k ≤ n → bit w n ≡ false
 unfolding bit
 bit-above w k n h b = rw (div-eq-of-lt (lt-of-lt-of-le h (pow-mono b)))
+
+-- one of k + 1 bits whose bit k is 0 is below 2 ^ k
+pub bit-top : (w k : ℕ) → w < 2 ^ suc k → bit w k ≡ false → w < 2 ^ k
+bit-top w zero h b =
+    let low : (w % 2 ≡ 1) → ⊥ = eqb-false (w % 2) 1 (sym (bit-zero w) ∙ b) in
+    omega (arith, h, low)
+bit-top w (suc k) h b =
+    let g : w < 2 ^ suc k * 2 = rw pow-suc at h in
+    let half : w / 2 < 2 ^ k = bit-top (w / 2) k (omega arith) (sym (bit-suc w k) ∙ b) in
+    rw pow-suc (omega arith)
 
 -- the remainder by 2 ^ k has the bits below k
 pub bit-mod : (w k n : ℕ) → n < k → bit (w % 2 ^ k) n ≡ bit w n
