@@ -5,3 +5,4 @@ pub mod Drawing
 pub mod Differing
 pub mod Resetting
 pub mod Receiving
+pub mod Masking
