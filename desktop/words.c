@@ -56,6 +56,7 @@ const char *const ERROR_NAMES[] = {
     "HIP is not above 0 (modes 0, 1) or not above LOP (modes 2 to 7)",
     "HIP is above OVF",
     "LOP is below UNF",
+    "OMB has bits of 12 to 15, which are no outputs",
 };
 NAMES_ALL(ERROR_NAMES, HSC_ER_COUNT);
 

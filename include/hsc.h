@@ -29,8 +29,8 @@
  * The version of this header: in words, and as one number, major * 10000 + minor * 100 + patch. A program compares the
  * number with hsc_version() at its start, to see that header and archive belong together.
  */
-#define HSC_VERSION "0.6.0"
-#define HSC_VERSION_NUMBER 600
+#define HSC_VERSION "0.7.0"
+#define HSC_VERSION_NUMBER 700
 
 #define HSC_HEADER_SIZE 24
 #define HSC_EVENT_SIZE 12
@@ -90,7 +90,7 @@ enum hsc_staged_sub {
 enum hsc_device_sub {
     HSC_DEVICE_PFN = 1, /* -32768 to 32767 */
     HSC_DEVICE_MOD = 2, /* -32768 to 32767 */
-    HSC_DEVICE_OMB = 3, /* 0-65535 */
+    HSC_DEVICE_OMB = 3, /* 0-65535; loads only with bits 0 to 11 */
     HSC_DEVICE_AS = 4   /* 0 or 1 */
 };
 
@@ -129,7 +129,8 @@ enum hsc_error {
     HSC_ER_HIP = 3, /* modes 0, 1: HIP > 0; modes 2 to 7: HIP > LOP */
     HSC_ER_OVF = 4, /* HIP <= OVF */
     HSC_ER_LOP = 5, /* modes 2 to 7: LOP >= UNF */
-    HSC_ER_COUNT = 6
+    HSC_ER_OMB = 6, /* OMB has bits 0 to 11 only */
+    HSC_ER_COUNT = 7
 };
 
 /* Indices into the fields of hsc_read; a setting is fields[HSC_STAGED + HSC_HIP], fields[HSC_ACTIVE + HSC_HIP]. */

@@ -1,6 +1,6 @@
-/* Calls the library as the depot's program does: a fresh snapshot is stepped and read back, mode 7 is reset, an image is
- * replayed and mended, two traces are compared, events are drawn, two tables are told apart by their bytes, an image is taken in
- * chunks, and refusals are met. One line for each check; the first that fails ends the run with status 1.
+/* Calls the library as the depot's program does: a fresh snapshot is stepped and read back, mode 7 is reset, masks are loaded, an
+ * image is replayed and mended, two traces are compared, events are drawn, two tables are told apart by their bytes, an image is
+ * taken in chunks, and refusals are met. One line for each check; the first that fails ends the run with status 1.
  *
  *   rt staticlib hsc
  *   cc -std=c11 -Wall -Wextra -Werror -pedantic -I include tests/c/first.c target/staticlib/libhsc.a -o target/first
@@ -163,6 +163,49 @@ static void resets(void) {
     step(snapshot, HSC_FLAG_WRITE, HSC_FLAG_CE, 0);
     check_sample("CE 0 and hold: A rises, no count", snapshot, a + z + hold, -1);
     check_sample("CE 0 and hold: A falls with B off and Z on, a reset all the same", snapshot, z + hold, 0);
+}
+
+/* The numbers of a snapshot that is well formed. */
+static void read_fields(const uint8_t snapshot[HSC_SNAPSHOT_SIZE], int32_t fields[HSC_FIELD_COUNT]) {
+    if (hsc_read(snapshot, HSC_SNAPSHOT_SIZE, fields) != 0) {
+        check("a snapshot that a step left is read", 0);
+    }
+}
+
+/* ER, and the active OMB, after a load with this OMB staged. */
+static void check_loaded(const char *what, uint8_t snapshot[HSC_SNAPSHOT_SIZE], int32_t omb, int32_t er, int32_t active) {
+    int32_t fields[HSC_FIELD_COUNT];
+    step(snapshot, HSC_DEVICE_WRITE, HSC_DEVICE_OMB, omb);
+    step(snapshot, HSC_FLAG_WRITE, HSC_FLAG_SP, 0);
+    step(snapshot, HSC_FLAG_WRITE, HSC_FLAG_SP, 1);
+    read_fields(snapshot, fields);
+    check(what, fields[HSC_ER] == er && fields[HSC_STAGED + HSC_OMB] == omb && fields[HSC_ACTIVE + HSC_OMB] == active);
+}
+
+static void masks(void) {
+    uint8_t snapshot[HSC_SNAPSHOT_SIZE];
+    int32_t fields[HSC_FIELD_COUNT];
+    fresh(snapshot);
+    step(snapshot, HSC_DEVICE_WRITE, HSC_DEVICE_PFN, 3);
+    step(snapshot, HSC_DEVICE_WRITE, HSC_DEVICE_MOD, HSC_MODE_DIRECTION);
+    check_loaded("a mask of all twelve outputs is loaded", snapshot, 0x0fff, HSC_ER_NONE, 0x0fff);
+    check_loaded("one with bit 12 is rejected with ER 6, and the active one stays", snapshot, 0x1000, HSC_ER_OMB, 0x0fff);
+    check_loaded("so is one with bit 15", snapshot, 0x8001, HSC_ER_OMB, 0x0fff);
+
+    step(snapshot, HSC_STAGED_WRITE, HSC_STAGED_HIP, 9);
+    step(snapshot, HSC_PRESET_LOAD, 0, 0);
+    read_fields(snapshot, fields);
+    check("a preset load does not look at the mask", fields[HSC_ER] == HSC_ER_NONE && fields[HSC_ACTIVE + HSC_HIP] == 9);
+
+    step(snapshot, HSC_DEVICE_WRITE, HSC_DEVICE_AS, 1);
+    step(snapshot, HSC_ENTER_RUN, 0, 0);
+    read_fields(snapshot, fields);
+    check("enter run rejects it too, and FE stays", fields[HSC_ER] == HSC_ER_OMB && (fields[HSC_FLAGS] >> HSC_FLAG_FE & 1) == 0);
+    step(snapshot, HSC_STAGED_WRITE, HSC_STAGED_UNF, 0);
+    check_loaded("LOP below UNF goes before it", snapshot, 0x1000, HSC_ER_LOP, 0x0fff);
+
+    put(snapshot, 46, 2, 0x1fff);
+    check_unread("a snapshot with bit 12 in the active mask is refused by 6", HSC_REFUSED_SNAPSHOT, snapshot, sizeof snapshot);
 }
 
 static void refusals(void) {
@@ -572,6 +615,7 @@ int main(void) {
     events();
     steps();
     resets();
+    masks();
     refusals();
     images();
     comparisons();

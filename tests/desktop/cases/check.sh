@@ -113,3 +113,43 @@ try 2 check missing.trace cut.trace first.trace
 says err 'missing.trace: cannot be opened'
 says err 'cut.trace: refused 4 at 0'
 says out 'first.trace: not true'
+
+# A table that was made before a load with one of bits 12 to 15 in OMB was rejected: the first snapshot that differs is told with its
+# fields. A mend from it is refused, since it is not well formed, and a replay makes the table anew.
+{
+    header 4 3
+    event 3 1 3
+    event 3 3 8193
+    event 4 6 1
+    event 5 0 7
+    snapshot 0 0
+    numbers 2 3 0
+    numbers 4 2147483647 -2147483648 2147483647 -2147483648
+    numbers 2 8193 0 0
+    numbers 2 3 0
+    numbers 4 2147483647 -2147483648 2147483647 -2147483648
+    numbers 2 8193 0 0
+    number 4 0
+    numbers 2 0 0
+    number 4 526272
+    numbers 1 0 0 0 0
+} > before.trace
+keep before.trace try 3 check before.trace
+prints << END
+not true: snapshot 1 differs first, 1 of 2 differ
+  active PFN: stored 3, replayed 0
+  active HIP: stored 2147483647, replayed 0
+  active LOP: stored -2147483648, replayed 0
+  active OVF: stored 2147483647, replayed 0
+  active UNF: stored -2147483648, replayed 0
+  active OMB: stored 2001, replayed 0000
+  ER: stored 0, replayed 6
+  flags: stored 000807c0, replayed 000007d0, different: ED loaded
+  the stored snapshot is not well formed
+END
+keep before.trace refuse 6 1 mend before.trace 3 one-event.patch
+try 0 replay before.trace
+try 0 check before.trace
+try 0 mend before.trace 3 one-event.patch
+try 0 show before.trace 1
+says out 'ER       6, OMB has bits of 12 to 15, which are no outputs'
