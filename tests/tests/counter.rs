@@ -1,5 +1,5 @@
 //! Document 01's own rows of the counter: the bench table, the load rows, single events and
-//! the snapshot's layout; and the rows of document 02, request 4.
+//! the snapshot's layout; and the rows of document 02, requests 4 and 6.
 
 use hsc_tests::generate::event::event;
 use hsc_tests::generate::state::{loaded, p};
@@ -13,6 +13,7 @@ use hsc_tests::subject::{on_each, Subject};
 const DONE: (u8, u8, i32) = (7, 0, 0);
 const ENTER_RUN: (u8, u8, i32) = (8, 0, 0);
 const PRESET_LOAD: (u8, u8, i32) = (6, 0, 0);
+const AS_ON: (u8, u8, i32) = (3, 4, 1);
 const SP_ON: (u8, u8, i32) = (4, 6, 1);
 const SP_OFF: (u8, u8, i32) = (4, 6, 0);
 /// One count in mode 2, from levels 0.
@@ -104,15 +105,30 @@ fn load_rows() {
         (Settings { hip: 6, ..p() }, 4),
         (Settings { lop: -4, ..p() }, 5),
         (Settings { mode: 1, lop: -4, ..p() }, 0),
+        (Settings { omb: 0x0fff, ..p() }, 0),
+        (Settings { omb: 0x1000, ..p() }, 6),
+        (Settings { omb: 0x2000, ..p() }, 6),
+        (Settings { omb: 0x4fff, ..p() }, 6),
+        (Settings { omb: 0x8001, ..p() }, 6),
+        (Settings { omb: 0xffff, ..p() }, 6),
+        (Settings { omb: 0x1000, mode: 1, ..p() }, 6),
+        (Settings { omb: 0x1000, lop: -4, ..p() }, 5),
+        (Settings { omb: 0x1000, hip: 6, ..p() }, 4),
+        (Settings { omb: 0x1000, hip: -2, ..p() }, 3),
+        (Settings { omb: 0x1000, mode: 8, ..p() }, 2),
+        (Settings { omb: 0x1000, pfn: 2, ..p() }, 1),
     ];
     on_each(|subject| {
         for (staged, er) in rows {
             let before = Counter { staged, ..Counter::fresh() };
-            let counter = after(subject, before, &[SP_ON]);
             let active = if er == 0 { staged } else { Settings::default() };
+            let counter = after(subject, before, &[SP_ON]);
             assert_eq!((counter.er, counter.active), (er, active), "{staged:?}");
             assert!(counter.has(SP));
             assert_eq!((counter.has(ED), counter.has(LOADED)), (er != 0, er == 0));
+            let counter = after(subject, before, &[AS_ON, ENTER_RUN]);
+            assert_eq!((counter.er, counter.active, counter.staged), (er, active, staged), "{staged:?}");
+            assert_eq!((counter.has(ED), counter.has(LOADED), counter.has(FE)), (er != 0, er == 0, er == 0));
         }
     });
 }
@@ -144,6 +160,51 @@ fn preset_load_takes_all_four_or_none() {
         }
         let unloaded = Counter { staged, ..Counter::fresh() };
         assert_eq!(after(subject, unloaded, &[PRESET_LOAD]), unloaded);
+    });
+}
+
+#[test]
+fn preset_load_does_not_look_at_omb() {
+    on_each(|subject| {
+        for omb in [0x1000, 0x2000, 0x4000, 0x8000, 0xf000, 0xffff] {
+            let loaded = loaded(Settings { omb: 0x0fff, ..p() }, 0);
+            let before = after(subject, loaded, &[(3, 3, omb), (2, 1, 3), (2, 5, 7)]);
+            let counter = after(subject, before, &[PRESET_LOAD]);
+            assert_eq!(counter.active, Settings { hip: 3, hpo: 7, ..loaded.active });
+            assert_eq!((counter.er, counter.staged), (0, before.staged));
+            let rejected = after(subject, before, &[(2, 2, -4), PRESET_LOAD]);
+            assert_eq!((rejected.er, rejected.active), (5, loaded.active));
+            // Rejected by 6, and accepted again by the presets alone.
+            let six = after(subject, before, &[SP_ON]);
+            assert_eq!((six.er, six.active, six.staged), (6, loaded.active, before.staged));
+            assert!(six.has(ED | LOADED));
+            let again = after(subject, six, &[PRESET_LOAD]);
+            assert_eq!((again.er, again.active), (0, counter.active));
+            assert!(!again.has(ED));
+        }
+    });
+}
+
+#[test]
+fn snapshots_with_a_mask_over_no_output() {
+    on_each(|subject| {
+        let mut fields = [0; 32];
+        for bit in 0..16 {
+            let active = Settings { omb: 1 << bit, ..p() };
+            let refusal = if bit < 12 { 0 } else { 6 };
+            assert_eq!(subject.read(&encode(&loaded(active, 0)), &mut fields), refusal, "active, bit {bit}");
+            let staged = Counter { staged: active, ..loaded(p(), 0) };
+            assert_eq!(subject.read(&encode(&staged), &mut fields), 0, "staged, bit {bit}");
+            let unloaded =
+                Counter { active: Settings { omb: 1 << bit, ..Settings::default() }, ..Counter::fresh() };
+            assert_eq!(subject.read(&encode(&unloaded), &mut fields), 6, "not loaded, bit {bit}");
+        }
+        for er in 0..10 {
+            let flags = Counter::fresh().flags | if er == 0 { 0 } else { ED };
+            let counter = Counter { er, flags, ..Counter::fresh() };
+            let refusal = if er <= 6 { 0 } else { 6 };
+            assert_eq!(subject.read(&encode(&counter), &mut fields), refusal, "ER {er}");
+        }
     });
 }
 
@@ -335,7 +396,7 @@ fn program_word_keeps_outputs_of_the_mask() {
     on_each(|subject| {
         let fresh = after(subject, Counter::fresh(), &[(3, 3, 0x00ff), (9, 0, 0xffff)]);
         assert_eq!(fresh.outputs, 0x0fff);
-        let masked = loaded(Settings { omb: 0xf0f0, ..p() }, 0);
+        let masked = loaded(Settings { omb: 0x00f0, ..p() }, 0);
         let counter = after(subject, Counter { outputs: 0x0011, ..masked }, &[(9, 0, 0xabcd)]);
         assert_eq!(counter.outputs, 0x0b1d);
     });
@@ -356,10 +417,10 @@ fn snapshot_layout() {
     };
     let counter = Counter {
         staged,
-        active: Settings { omb: 0x1112, ..p() },
+        active: Settings { omb: 0x0a12, ..p() },
         acc: -2,
         outputs: 0x0213,
-        er: 5,
+        er: 6,
         flags: LOADED | ED | CE | MD,
         levels: 9,
         running: 4,
@@ -370,8 +431,8 @@ fn snapshot_layout() {
         0xfe, 0xff, 2, 1, 6, 5, 4, 3, 0xfd, 0xff, 0xff, 0xff, 10, 9, 8, 7, 0, 0, 0, 0x80,
         0x0c, 0x0b, 0x0e, 0x0d, 0x0f, 0xf0,
         3, 0, 2, 0, 4, 0, 0, 0, 0xfe, 0xff, 0xff, 0xff, 5, 0, 0, 0, 0xfd, 0xff, 0xff, 0xff,
-        0x12, 0x11, 0, 0, 0, 0,
-        0xfe, 0xff, 0xff, 0xff, 0x13, 2, 5, 0, 0x30, 0, 0x0c, 0, 9, 4, 3, 1,
+        0x12, 0x0a, 0, 0, 0, 0,
+        0xfe, 0xff, 0xff, 0xff, 0x13, 2, 6, 0, 0x30, 0, 0x0c, 0, 9, 4, 3, 1,
     ];
     assert_eq!(encode(&counter), bytes);
     assert_eq!(decode(&bytes), counter);
@@ -391,12 +452,12 @@ fn snapshot_layout() {
         -2,
         5,
         -3,
-        0x1112,
+        0x0a12,
         0,
         0, // active
         -2,
         0x0213,
-        5,
+        6,
         0x000c_0030,
         9,
         4,

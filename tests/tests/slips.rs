@@ -10,7 +10,7 @@ use hsc_tests::harness::{
 #[test]
 fn every_slip_is_caught() {
     for slip in Slip::all() {
-        let failure = harness::run(&slip, 1, 0..20_000).err();
+        let failure = harness::run(&slip, 1, 0..100_000).err();
         let failure = failure.unwrap_or_else(|| panic!("{slip:?} passes"));
         let line = failure.lines().next().unwrap_or_default();
         println!("{slip:?}: {}", &line[..line.len().min(150)]);

@@ -1,6 +1,6 @@
 //! Events: legal ones, damaged ones, and the events that load given settings.
 
-use super::{change_byte, value, Rng, EDGES};
+use super::{change_byte, mask, value, Rng, EDGES};
 use crate::model::event::Bytes;
 use crate::model::settings::Settings;
 
@@ -59,7 +59,7 @@ fn programming(rng: &mut Rng) -> Bytes {
         1 | 2 => event(3, 1, 3 + rng.below(253) as i32),
         3 => event(3, 2, edge(rng)),
         4 | 5 => event(3, 2, rng.below(8) as i32),
-        6 => event(3, 3, word(rng)),
+        6 => event(3, 3, mask(rng).into()),
         _ => event(3, 4, rng.below(2) as i32),
     }
 }

@@ -3,6 +3,7 @@
 pub mod drawing;
 pub mod event;
 pub mod image;
+pub mod loading;
 pub mod pair;
 pub mod parts;
 pub mod patch;
@@ -12,6 +13,8 @@ pub mod sampling;
 pub mod state;
 
 pub use rng::Rng;
+
+use crate::model::counter::OUTPUTS;
 
 /// Values at the limits that document 01 names, and beside them.
 #[rustfmt::skip]
@@ -26,6 +29,17 @@ pub fn value(rng: &mut Rng) -> i32 {
         0 | 1 => rng.pick(&EDGES),
         2 => rng.bits() as i32,
         _ => rng.below(11) as i32 - 5,
+    }
+}
+
+/// A mask of outputs, seldom with one of the bits that are none, or any bits.
+pub fn mask(rng: &mut Rng) -> u16 {
+    let bits = rng.bits() as u16;
+    match rng.below(16) {
+        0 => bits,
+        1 => bits & OUTPUTS | 1 << (12 + rng.below(4)),
+        2 => rng.pick(&[0, 1 << 11, OUTPUTS, 1 << 12, u16::MAX]),
+        _ => bits & OUTPUTS,
     }
 }
 

@@ -1,6 +1,6 @@
 //! Settings, states and snapshots.
 
-use super::{change_byte, change_length, value, Rng};
+use super::{change_byte, change_length, mask, value, Rng};
 use crate::model::counter::{Counter, OUTPUTS};
 use crate::model::flags;
 use crate::model::settings::Settings;
@@ -20,7 +20,7 @@ fn loose_settings(rng: &mut Rng) -> Settings {
         lop,
         ovf,
         unf,
-        omb: rng.bits() as u16,
+        omb: mask(rng),
         hpo: rng.bits() as u16,
         lpo: rng.bits() as u16,
     }
@@ -54,7 +54,7 @@ pub fn state(rng: &mut Rng) -> Counter {
         1 => settings(rng),
         _ => loose_settings(rng),
     };
-    let er = if rng.once_in(4) { 1 + rng.below(5) as u16 } else { 0 };
+    let er = if rng.once_in(4) { 1 + rng.below(6) as u16 } else { 0 };
     let mut bits = rng.bits() as u32 & flags::NAMED & !flags::ED & !flags::LOADED;
     if !rng.once_in(4) {
         bits |= flags::CE | flags::FE | flags::UIE | flags::MASKS;
@@ -103,6 +103,9 @@ pub fn loaded(settings: Settings, acc: i32) -> Counter {
 /// The bytes that a rule of well-formedness concerns beside the active settings.
 const RULED: [usize; 10] = [57, 58, 59, 60, 62, 63, 64, 65, 66, 67];
 
+/// Where the active OMB begins.
+const ACTIVE_OMB: usize = 46;
+
 /// A snapshot, at times damaged in a byte or two, seldom 68 random bytes.
 pub fn snapshot(rng: &mut Rng) -> snapshot::Bytes {
     let mut bytes = snapshot::encode(&state(rng));
@@ -112,6 +115,7 @@ pub fn snapshot(rng: &mut Rng) -> snapshot::Bytes {
         2 => change_byte(rng, &mut bytes[26..52]),
         3 => bytes[rng.pick(&RULED)] = rng.below(20) as u8,
         4 => bytes[rng.pick(&RULED)] ^= 1 << rng.below(8),
+        5 => bytes[ACTIVE_OMB + 1] |= 16 << rng.below(4),
         _ => {}
     }
     bytes

@@ -14,7 +14,9 @@ use receiver::Phase;
 use tally::Tally;
 
 use crate::generate::reader;
-use crate::generate::{change_length, drawing, event, image, pair, parts, patch, sampling, state, Rng};
+use crate::generate::{
+    change_length, drawing, event, image, loading, pair, parts, patch, sampling, state, Rng,
+};
 use crate::model::event::{row, Event};
 use crate::model::{counter::Counter, snapshot};
 use crate::subject::{Model, Subject};
@@ -101,15 +103,20 @@ fn check_event(subject: &dyn Subject, rng: &mut Rng, tally: &mut Tally) -> Resul
 
 fn read(subject: &dyn Subject, rng: &mut Rng, tally: &mut Tally) -> Result<(), String> {
     let case = Case::read(&state::lent(rng));
-    compare(subject, &case, tally).map(drop)
+    let answer = compare(subject, &case, tally)?;
+    tally.read(&case, &answer);
+    Ok(())
 }
 
 fn step(subject: &dyn Subject, rng: &mut Rng, tally: &mut Tally) -> Result<(), String> {
-    let case = if rng.once_in(4) {
-        let (snapshot, sample) = sampling::any(rng);
-        Case::step(&snapshot, &sample)
-    } else {
-        Case::step(&state::lent(rng), &event_input(rng, 8))
+    let taken = match rng.below(8) {
+        0 | 1 => Some(sampling::any(rng)),
+        2 => Some(loading::any(rng)),
+        _ => None,
+    };
+    let case = match taken {
+        Some((snapshot, event)) => Case::step(&snapshot, &event),
+        None => Case::step(&state::lent(rng), &event_input(rng, 8)),
     };
     let answer = compare(subject, &case, tally)?;
     if answer.status == 0 {

@@ -1,6 +1,7 @@
 //! Subjects that are wrong on purpose, each by one slip over the model, to see that the
 //! harness catches it.
 
+mod load;
 mod reader;
 mod sample;
 
@@ -10,14 +11,19 @@ use std::ops::Range;
 use crate::generate::image::Parts;
 use crate::generate::parts::BLOCK;
 use crate::model::counter::{Counter, OUTPUTS};
-use crate::model::{event, flags, snapshot, Refusal};
+use crate::model::event::{self, Event};
+use crate::model::{flags, snapshot, Refusal};
 use crate::subject::{Model, Subject};
+use load::Loading;
 use sample::Sampling;
 
 pub use reader::Reading;
 
-/// Where a snapshot has ACC.
+/// Where a snapshot has ACC, and the active OMB from.
 const ACC: Range<usize> = 52..56;
+const ACTIVE_OMB: usize = 46;
+/// Which of the numbers read is ER.
+const ER: usize = 20;
 
 #[derive(Clone, Debug)]
 pub enum Slip {
@@ -29,6 +35,12 @@ pub enum Slip {
     StagedMask,
     /// A sample by another rule, in a step.
     Sample(Sampling),
+    /// A load by another rule, in a step.
+    Load(Loading),
+    /// Takes a snapshot whose active mask has bits that are no outputs.
+    MaskTaken,
+    /// Does not take a snapshot with ER 6.
+    Error6Refused,
     ReplayRefusesAll,
     MendTouchesNothing,
     /// Mends once, then says it did and touches nothing.
@@ -96,6 +108,8 @@ impl Slip {
             Slip::StepIsFixed,
             Slip::OverflowAtLimit,
             Slip::StagedMask,
+            Slip::MaskTaken,
+            Slip::Error6Refused,
             Slip::ReplayRefusesAll,
             Slip::MendTouchesNothing,
             Slip::MendNods(Cell::new(false)),
@@ -127,6 +141,7 @@ impl Slip {
             Slip::LooksPast,
         ];
         all.extend(Sampling::ALL.map(Slip::Sample));
+        all.extend(Loading::ALL.map(Slip::Load));
         all.extend(Reading::all().into_iter().map(Slip::Read));
         all
     }
@@ -161,6 +176,10 @@ impl Subject for Slip {
             Slip::Sample(rule) if event[0] == 1 => {
                 counter = rule.sampled(snapshot::decode(old[..].try_into().unwrap()), event[4]);
             }
+            Slip::Load(rule) => {
+                let event = Event::from_bytes(event.try_into().unwrap());
+                counter = rule.stepped(snapshot::decode(old[..].try_into().unwrap()), event);
+            }
             _ => {}
         }
         snapshot.copy_from_slice(&snapshot::encode(&counter));
@@ -168,9 +187,20 @@ impl Subject for Slip {
     }
 
     fn read(&self, snapshot: &[u8], fields: &mut [i32; 32]) -> u64 {
+        let painted = *fields;
         let status = Model.read(snapshot, fields);
-        if matches!(self, Slip::RefusalWrites) && status != 0 {
-            fields.fill(0);
+        match (self, status) {
+            (Slip::RefusalWrites, 1..) => fields.fill(0),
+            (Slip::MaskTaken, 6) => {
+                let mut cut = snapshot.to_vec();
+                cut[ACTIVE_OMB + 1] &= (OUTPUTS >> 8) as u8;
+                return Model.read(&cut, fields);
+            }
+            (Slip::Error6Refused, 0) if fields[ER] == 6 => {
+                *fields = painted;
+                return 6;
+            }
+            _ => {}
         }
         status
     }

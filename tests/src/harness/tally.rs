@@ -9,7 +9,7 @@ use super::receiver::Phase;
 use crate::generate::image::{Parts, Table};
 use crate::generate::pair;
 use crate::generate::parts::BLOCK;
-use crate::model::counter::Counter;
+use crate::model::counter::{Counter, OUTPUTS};
 use crate::model::event::{self, first_illegal, row, Event};
 use crate::model::reader::{number, EVENT, HEADER, TAKEN};
 use crate::model::trace::{HEADER_SIZE, MAX_EVENTS, MAX_SPACING};
@@ -21,7 +21,7 @@ pub struct Tally {
 }
 
 /// Each heading with the numbers that must be reached under it.
-const REQUIRED: [(&str, &[u32]); 83] = [
+const REQUIRED: [(&str, &[u32]); 91] = [
     (CHECK, &[0, 1, 9]),
     (STEP, &[0, 5, 6, 9]),
     (READ, &[0, 6, 9]),
@@ -30,8 +30,16 @@ const REQUIRED: [(&str, &[u32]); 83] = [
     (AT_PLACE, &[5, 6, 8]),
     (KIND, KINDS),
     (MODE, &[0, 1, 2, 3, 4, 5, 6, 7]),
-    (LOAD, &[0, 1, 2, 3, 4, 5]),
+    (LOAD_SP, ERRORS),
+    (LOAD_RUN, ERRORS),
+    (LOAD_MASK, &[0, 1, 2]),
+    (OTHER_BIT, OTHER_BITS),
+    (OTHER_BITS_TOO, &[1, 2, 3, 4, 5]),
     (PRESET_LOAD, &[0, 3, 4, 5]),
+    (PRESET_OTHER_BITS, &[0, 3, 4, 5]),
+    (READ_ER, ERRORS),
+    (READ_STAGED, &[0, 1]),
+    (READ_OTHER_BIT, OTHER_BITS),
     (RESET, &[1, 3, 5, 7]),
     (HELD, &[1, 3, 5, 7]),
     (RESET_DESPITE, &[0, 1, 2, 3]),
@@ -109,6 +117,9 @@ const REQUIRED: [(&str, &[u32]); 83] = [
 
 const KINDS: &[u32] = &[0, 1, 2, 3, 4, 5, 6, 7, 8, 9];
 const CAUSES: &[u32] = &[1, 2, 3, 4];
+const ERRORS: &[u32] = &[0, 1, 2, 3, 4, 5, 6];
+/// The bits of OMB that are no outputs.
+const OTHER_BITS: &[u32] = &[12, 13, 14, 15];
 const TRACES: &[u32] = &[1, 2];
 const TABLES: &[u32] = &[0, 1, 2, 3, 4, 5];
 const PHASES: &[u32] = &[0, 1, 2, 3, 4, 5, 6, 7, 8, 9];
@@ -144,8 +155,16 @@ const A_FALLS: &str =
     "A falls in mode 7, CE 1, no hold, no reset: B off, down, Z 0 off from before, 1 falls; \
      B on, no count, Z 2 off, 3 on";
 const A_RISES: &str = "A rises in mode 7, CE 1, no hold, B off: 0 Z off, up, 1 Z on, no count";
-const LOAD: &str = "load: ER";
+const LOAD_SP: &str = "load by SP: ER";
+const LOAD_RUN: &str = "load by enter run: ER";
+const LOAD_MASK: &str = "load accepted: OMB 0 empty, 1 some outputs, 2 all twelve";
+const OTHER_BIT: &str = "load rejected by 6 for one bit of OMB alone: bit";
+const OTHER_BITS_TOO: &str = "load rejected by an earlier rule with such bits too: ER";
 const PRESET_LOAD: &str = "preset load: ER";
+const PRESET_OTHER_BITS: &str = "preset load with such bits staged: ER";
+const READ_ER: &str = "read: ER";
+const READ_STAGED: &str = "read: staged OMB 0 outputs alone, 1 such bits too";
+const READ_OTHER_BIT: &str = "read refused for one bit of the active OMB alone: bit";
 const RAISED: &str = "cause raised";
 const STARTED: &str = "cause started";
 const WAITED: &str = "cause waited";
@@ -268,6 +287,24 @@ impl Tally {
         self.add(heading, answer.number());
         if answer.place() != 0 {
             self.add(AT_PLACE, answer.number());
+        }
+    }
+
+    /// Counts what a reading met of errors and masks.
+    pub fn read(&mut self, case: &Case, answer: &Answer) {
+        if answer.number() == 9 {
+            return;
+        }
+        let mut counter = snapshot::decode(case.buffer[..].try_into().unwrap());
+        if answer.number() == 0 {
+            self.add(READ_ER, counter.er.into());
+            self.add(READ_STAGED, (counter.staged.omb & !OUTPUTS != 0).into());
+            return;
+        }
+        let others = counter.active.omb & !OUTPUTS;
+        counter.active.omb &= OUTPUTS;
+        if others.is_power_of_two() && counter.is_well_formed() {
+            self.add(READ_OTHER_BIT, others.trailing_zeros());
         }
     }
 
@@ -554,9 +591,9 @@ impl Tally {
         self.add(KIND, event.kind.into());
         match (event.kind, event.sub, event.value) {
             (1, _, levels) => self.sample(counter, levels as u8),
-            (4, 6, 1) if !counter.has(flags::SP) => self.load(LOAD, counter, event),
-            (8, ..) if counter.has(flags::AS) => self.load(LOAD, counter, event),
-            (6, ..) if counter.has(flags::LOADED) => self.load(PRESET_LOAD, counter, event),
+            (4, 6, 1) if !counter.has(flags::SP) => self.load(LOAD_SP, counter, event),
+            (8, ..) if counter.has(flags::AS) => self.load(LOAD_RUN, counter, event),
+            (6, ..) if counter.has(flags::LOADED) => self.preset_load(counter, event),
             _ => counter.step(event),
         }
     }
@@ -564,6 +601,22 @@ impl Tally {
     fn load(&mut self, heading: &'static str, counter: &mut Counter, event: Event) {
         counter.step(event);
         self.add(heading, counter.er.into());
+        let omb = counter.staged.omb;
+        let others = omb & !OUTPUTS;
+        match counter.er {
+            0 => self.add(LOAD_MASK, if omb == OUTPUTS { 2 } else { (omb != 0).into() }),
+            6 if others.is_power_of_two() => self.add(OTHER_BIT, others.trailing_zeros()),
+            er @ 1..6 if others != 0 => self.add(OTHER_BITS_TOO, er.into()),
+            _ => {}
+        }
+    }
+
+    fn preset_load(&mut self, counter: &mut Counter, event: Event) {
+        counter.step(event);
+        self.add(PRESET_LOAD, counter.er.into());
+        if counter.staged.omb & !OUTPUTS != 0 {
+            self.add(PRESET_OTHER_BITS, counter.er.into());
+        }
     }
 
     fn sample(&mut self, counter: &mut Counter, levels: u8) {

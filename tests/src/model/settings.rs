@@ -1,4 +1,7 @@
-//! A counter's nine settings and the rules of a load ("Loading settings").
+//! A counter's nine settings and the rules of a load ("Loading settings"; rule 6 is document 02's,
+//! request 6).
+
+use super::counter::OUTPUTS;
 
 #[derive(Clone, Copy, Default, PartialEq, Eq, Debug)]
 pub struct Settings {
@@ -37,6 +40,8 @@ impl Settings {
             4
         } else if self.both_ways() && self.lop < self.unf {
             5
+        } else if self.omb & !OUTPUTS != 0 {
+            6
         } else {
             0
         }
