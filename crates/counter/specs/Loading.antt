@@ -1,4 +1,4 @@
--- Document 01, "Loading settings": the rules in their order, and what an accepted and a rejected load leave.
+-- Document 01, "Loading settings", with document 02's request 6: the rules in their order, and what an accepted and a rejected load leave.
 use mathlib.Core.Path.{_≡_}
 use mathlib.Core.Bool.{Bool, true, false, cond, not, _&&_, _||_}
 use mathlib.Core.List.{List, [], _∷_, _++_}
