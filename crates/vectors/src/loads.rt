@@ -68,21 +68,21 @@ pub fn run() {
     load(b"mode 2, HIP = LOP", settings(3, 2, 4, 4, 5, -3), 3);
     load(b"HIP = OVF", settings(3, 2, 5, -2, 5, -3), 0);
     load(b"LOP one below UNF", settings(3, 2, 4, -4, 5, -3), 5);
-    load(b"OMB 0fff", masked(settings(3, 2, 4, -2, 5, -3), 4095), 0);
-    load(b"OMB 1000", masked(settings(3, 2, 4, -2, 5, -3), 4096), 6);
+    load(b"OMB 0fff", masked(settings(3, 2, 4, -2, 5, -3), 0x0fff), 0);
+    load(b"OMB 1000", masked(settings(3, 2, 4, -2, 5, -3), 0x1000), 6);
     load(
         b"OMB 1000, LOP one below UNF",
-        masked(settings(3, 2, 4, -4, 5, -3), 4096),
+        masked(settings(3, 2, 4, -4, 5, -3), 0x1000),
         5,
     );
     preset_load(
         b"preset load, staged OMB f000",
-        masked(settings(3, 2, 4, -2, 5, -3), 61440),
+        masked(settings(3, 2, 4, -2, 5, -3), 0xf000),
         0,
     );
     preset_load(
         b"preset load, staged OMB f000, LOP one below UNF",
-        masked(settings(3, 2, 4, -4, 5, -3), 61440),
+        masked(settings(3, 2, 4, -4, 5, -3), 0xf000),
         5,
     );
 }

@@ -103,8 +103,8 @@ pub fn loaded(settings: Settings, acc: i32) -> Counter {
 /// The bytes that a rule of well-formedness concerns beside the active settings.
 const RULED: [usize; 10] = [57, 58, 59, 60, 62, 63, 64, 65, 66, 67];
 
-/// Where the active OMB begins.
-const ACTIVE_OMB: usize = 46;
+/// Where a snapshot's active OMB begins.
+pub const ACTIVE_OMB: usize = 46;
 
 /// A snapshot, at times damaged in a byte or two, seldom 68 random bytes.
 pub fn snapshot(rng: &mut Rng) -> snapshot::Bytes {

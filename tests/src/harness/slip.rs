@@ -10,6 +10,7 @@ use std::ops::Range;
 
 use crate::generate::image::Parts;
 use crate::generate::parts::BLOCK;
+use crate::generate::state::ACTIVE_OMB;
 use crate::model::counter::{Counter, OUTPUTS};
 use crate::model::event::{self, Event};
 use crate::model::{flags, snapshot, Refusal};
@@ -19,9 +20,8 @@ use sample::Sampling;
 
 pub use reader::Reading;
 
-/// Where a snapshot has ACC, and the active OMB from.
+/// Where a snapshot has ACC.
 const ACC: Range<usize> = 52..56;
-const ACTIVE_OMB: usize = 46;
 /// Which of the numbers read is ER.
 const ER: usize = 20;
 

@@ -1,4 +1,4 @@
-//! Wrong rules of a load, and of what stands in a snapshot after one (document 02, request 6).
+//! Wrong rules of a load (document 02, request 6).
 
 use crate::model::counter::{Counter, OUTPUTS};
 use crate::model::event::Event;
