@@ -11,7 +11,7 @@ use Rattle.word.proofs.Branches.{cond-cases}
 use Rattle.counter.specs.declared.state.Settings.{Settings}
 use Rattle.counter.specs.declared.state.Counter.{Counter}
 use Rattle.counter.specs.Parts.{flag, ED, LOADED, withActive, withFlags}
-use Rattle.counter.specs.Loading.{rules, ruleCount, presetRules, brokenFrom, AllPass, firstBroken, presetBroken, withoutError, accepted}
+use Rattle.counter.specs.Loading.{rules, ruleCount, presetRules, AllPass, firstBroken, presetBroken, withoutError, accepted}
 use Rattle.counter.specs.Loading.{rejected, load, withPresets, presetAccepted, presetLoad}
 use Rattle.counter.specs.WellFormed.{SettingsTyped}
 use Rattle.counter.proofs.FirstBroken.{broken-le, passes-all, first-presets}
