@@ -127,3 +127,43 @@ downFlags-uf cause w = go (eqb cause underflow)
     go : (a : Bool) → bit (cond a (setBit (clearBit 32 w DIR) UF) (clearBit 32 w DIR)) UF ≡ cond a true (bit w UF)
     go true = bit-setBit (clearBit 32 w DIR) UF UF
     go false = bit-clearBit 32 w DIR UF (lit< tt) (lit< tt)
+
+-- ---- UIL, which neither counts nor causes that start touch
+
+pub upFlags-uil : (single : Bool) (cause w : ℕ) → bit (upFlags single cause w) UIL ≡ bit w UIL
+unfolding upFlags
+upFlags-uil single cause w = go (eqb cause overflow) (eqb cause highPreset && single)
+  where
+    go : (a b : Bool) → bit (cond a (setBit (setBit w DIR) OF) (cond b (setBit (setBit w DIR) MD) (setBit w DIR))) UIL ≡ bit w UIL
+    go true b = bit-setBit (setBit w DIR) OF UIL ∙ bit-setBit w DIR UIL
+    go false true = bit-setBit (setBit w DIR) MD UIL ∙ bit-setBit w DIR UIL
+    go false false = bit-setBit w DIR UIL
+
+pub downFlags-uil : (cause w : ℕ) → bit (downFlags cause w) UIL ≡ bit w UIL
+unfolding downFlags
+downFlags-uil cause w = go (eqb cause underflow)
+  where
+    go : (a : Bool) → bit (cond a (setBit (clearBit 32 w DIR) UF) (clearBit 32 w DIR)) UIL ≡ bit w UIL
+    go true = bit-setBit (clearBit 32 w DIR) UF UIL ∙ bit-clearBit 32 w DIR UIL (lit< tt) (lit< tt)
+    go false = bit-clearBit 32 w DIR UIL (lit< tt) (lit< tt)
+
+pub started-uil : (cause w : ℕ) → bit (started cause w) UIL ≡ bit w UIL
+unfolding started quiet
+started-uil cause w =
+    cond-cases Still (eqb cause lowPreset) _ _ (λ e. bit-setBit (quiet w) LPI UIL ∙ still)
+    (λ e. cond-cases Still (eqb cause highPreset) _ _ (λ e. bit-setBit (quiet w) HPI UIL ∙ still)
+    (λ e. cond-cases Still (eqb cause underflow) _ _ (λ e. bit-setBit (quiet w) UFI UIL ∙ still)
+    (λ e. cond-cases Still (eqb cause overflow) _ _ (λ e. bit-setBit (quiet w) OFI UIL ∙ still) (λ e. still))))
+  where
+    Still : ℕ → Type 0
+    Still v = bit v UIL ≡ bit w UIL
+
+    cleared : (v n : ℕ) → n < 32 → eqb n UIL ≡ false → bit (clearBit 32 v n) UIL ≡ bit v UIL
+    cleared v n h e = bit-clearBit 32 v n UIL h (lit< tt) ∙ rw e
+
+    still : bit (quiet w) UIL ≡ bit w UIL
+    still =
+        cleared (clearBit 32 (clearBit 32 (clearBit 32 w LPI) HPI) UFI) OFI (lit< tt) refl
+        ∙ cleared (clearBit 32 (clearBit 32 w LPI) HPI) UFI (lit< tt) refl
+        ∙ cleared (clearBit 32 w LPI) HPI (lit< tt) refl
+        ∙ cleared w LPI (lit< tt) refl

@@ -45,7 +45,8 @@ formed-parts c h =
     let causes = and-eq-true-iff _ _ .0 (error .0) in
     let levels = and-eq-true-iff _ _ .0 (causes .0) in
     let words = and-eq-true-iff _ _ .0 (levels .0) in
-    let served = and-eq-true-iff _ _ .0 (causes .1) in
+    let differ = and-eq-true-iff _ _ .0 (causes .1) in
+    let served = and-eq-true-iff _ _ .0 (differ .0) in
     let order = and-eq-true-iff _ _ .0 (served .0) in
     let waiting = and-eq-true-iff _ _ .0 (order .0) in
     let most = and-eq-true-iff _ _ .0 (waiting .0) in
@@ -60,6 +61,7 @@ formed-parts c h =
           second-le = leb-true (second d) causeCount (waiting .1);
           order = order .1;
           counted = eqb-true (d .queued) (queuedOf (first d) (second d)) (counted .1);
+          differ = differ .1;
         };
         served = served .1;
       };
@@ -83,6 +85,7 @@ parts-formed c f =
       le-leb (second d) causeCount (q .second-le),
       q .order,
       k .served,
+      q .differ,
       le-leb (c .er) ruleCount (f .er),
       f .ed,
       same-refl (not (eqb (c .er) 0)),

@@ -13,7 +13,7 @@ use Rattle.counter.proofs.Queue.{IsCause, WellDesk, well-post, well-fin
 use Rattle.counter.proofs.Changes.{Well, well-flags}
 
 module _ (c : Counter) (w : Well c) where
-  desk : WellDesk causeCount (c .desk)
+  pub desk : WellDesk causeCount (c .desk)
   desk = record { causes = w .formed .causes; places = w .typed .waiting }
 
   pub well-desk : (d : Desk) → WellDesk causeCount d → Well (withDesk d c)

@@ -12,11 +12,13 @@ pub mod Legal
 pub mod LoadEffects
 pub mod Loads
 pub mod Masked
+pub mod Merging
 pub mod Modes
 pub mod Queue
 pub mod Raising
 pub mod Ranges
 pub mod Resets
+pub mod Rows
 pub mod Samples
 pub mod Steps
 pub mod Typing

@@ -22,7 +22,7 @@ use Rattle.counter.proofs.Exact.{load-accepted}
 use Rattle.counter.proofs.LoadEffects.{load-accepts}
 use Rattle.counter.proofs.Formed.{formed-parts}
 
-never : (b : Bool) → (b ≡ true → ⊥) → b ≡ false
+pub never : (b : Bool) → (b ≡ true → ⊥) → b ≡ false
 never true h = absurd (h refl)
 never false h = refl
 

@@ -1,16 +1,16 @@
 -- The desk stays well formed, whatever the greatest cause is: a cause that starts, waits or is lost, and a routine that is done.
 use mathlib.Core.Path.{_≡_, refl, _∙_}
-use mathlib.Core.Bool.{Bool, true, false, cond, not, _||_, or-true}
+use mathlib.Core.Bool.{Bool, true, false, cond, not, _||_, or-true, true≢false}
 use mathlib.Core.List.{List, [], _∷_}
 use Prim.Native.Nat.{ℕ, zero, suc, _+_, _-_, _≤_, _<_}
 use native.Mathlib.Omega.{arith}
-use borrow.Author.Tests.{ltb-true, eqb-true, eqb-false}
+use borrow.Author.Tests.{ltb-true, ltb-false, eqb-true, eqb-false}
 use lib.Dec.{eqb, ltb}
 use lib.ListN.{length, getD, set, length-set}
 use Rattle.counter.specs.declared.desk.Desk.{Desk}
 use Rattle.counter.specs.declared.desk.Outcome.the-variants.{Starts, Waits, Lost}
 use Rattle.counter.specs.declared.desk.Next.the-variants.{Cause, Nothing}
-use Rattle.counter.specs.Desk.{first, second, queuedOf, starting, waiting, posted, post, resting, advancing, finished, finish}
+use Rattle.counter.specs.Desk.{first, second, queuedOf, waits, starting, waiting, posted, post, resting, advancing, finished, finish}
 
 -- ---- the queue alone
 
@@ -25,6 +25,12 @@ pub record Queue (most first second queued : ℕ) : Type 0 where
   pub second-le : second ≤ most
   pub order : (eqb second 0 || not (eqb first 0)) ≡ true
   pub counted : queued ≡ queuedOf first second
+  pub differ : (eqb second 0 || not (eqb first second)) ≡ true
+
+-- a cause that does not wait is not the first that does
+not-first : (a b : Bool) → (a || b) ≡ false → a ≡ false
+not-first true b e = absurd (true≢false e)
+not-first false b e = refl
 
 module _ {most : ℕ} where
   -- where none is counted, both places are empty
@@ -47,25 +53,50 @@ module _ {most : ℕ} where
       go true y e = absurd (eqb-false n 0 z e)
       go false y e = refl
 
-  -- one more cause behind those that wait
-  queue-more : (l : List ℕ) (cause n : ℕ) → length l ≡ 2 → IsCause most cause → n < 2 → Queue most (getD l 0 0) (getD l 1 0) n
-      → Queue most (getD (set l n cause) 0 0) (getD (set l n cause) 1 0) (n + 1)
+  -- where two are counted, both places are taken
+  pub queue-full : (a b n : ℕ) → ltb n 2 ≡ false → Queue most a b n → (eqb a 0 ≡ false) × (eqb b 0 ≡ false)
   unfolding queuedOf
-  queue-more [] cause n e c h q = absurd (omega arith)
-  queue-more (a ∷ []) cause n e c h q = absurd (omega arith)
-  queue-more (a ∷ b ∷ l) cause zero e c h q =
+  queue-full a b n f q = go (eqb a 0) (eqb b 0) (q .counted)
+    where
+      two : 2 ≤ n
+      two = ltb-false n 2 f
+
+      go : (x y : Bool) → n ≡ cond x 0 (cond y 1 2) → (x ≡ false) × (y ≡ false)
+      go true y e = absurd (omega (arith, two))
+      go false true e = absurd (omega (arith, two))
+      go false false e = (refl, refl)
+
+  -- one more cause behind those that wait, which it is none of
+  queue-more : (l : List ℕ) (cause n : ℕ) → length l ≡ 2 → IsCause most cause → waits cause (getD l 0 0) (getD l 1 0) ≡ false → n < 2
+      → Queue most (getD l 0 0) (getD l 1 0) n → Queue most (getD (set l n cause) 0 0) (getD (set l n cause) 1 0) (n + 1)
+  unfolding queuedOf
+  queue-more [] cause n e c m h q = absurd (omega arith)
+  queue-more (a ∷ []) cause n e c m h q = absurd (omega arith)
+  queue-more (a ∷ b ∷ l) cause zero e c m h q =
       let none : eqb b 0 ≡ true = queue-empty a b 0 refl q .1 in
-      record { first-le = c .small; second-le = q .second-le; order = rw none; counted = rw (c .some, none) }
-  queue-more (a ∷ b ∷ l) cause (suc zero) e c h q =
+      record { first-le = c .small; second-le = q .second-le; order = rw none; counted = rw (c .some, none); differ = rw none }
+  queue-more (a ∷ b ∷ l) cause (suc zero) e c m h q =
       let one : eqb a 0 ≡ false = queue-first a b 1 refl q in
-      record { first-le = q .first-le; second-le = c .small; order = rw (c .some, one); counted = rw (one, c .some) }
-  queue-more (a ∷ b ∷ l) cause (suc (suc n)) e c h q = absurd (omega arith)
+      record {
+        first-le = q .first-le;
+        second-le = c .small;
+        order = rw (c .some, one);
+        counted = rw (one, c .some);
+        differ = rw (not-first (eqb a cause) (eqb b cause) m) (or-true (eqb cause 0));
+      }
+  queue-more (a ∷ b ∷ l) cause (suc (suc n)) e c m h q = absurd (omega arith)
 
   -- the first taken away
   queue-less : (a b n : ℕ) → eqb n 0 ≡ false → Queue most a b n → Queue most b 0 (n - 1)
   unfolding queuedOf
   queue-less a b n z q =
-      record { first-le = q .second-le; second-le = omega arith; order = refl; counted = go (eqb b 0) (q .counted ∙ rw (queue-first a b n z q)) }
+      record {
+        first-le = q .second-le;
+        second-le = omega arith;
+        order = refl;
+        counted = go (eqb b 0) (q .counted ∙ rw (queue-first a b n z q));
+        differ = refl;
+      }
     where
       go : (y : Bool) → n ≡ cond y 1 2 → n - 1 ≡ cond y 0 1
       go true e = rw e
@@ -92,12 +123,13 @@ module _ {most : ℕ} (d : Desk) (w : WellDesk most d) where
   well-starting cause h =
       record { causes = record { running-le = h .small; queue = k .queue; served = rw (h .some) (or-true (eqb (first d) 0)) }; places = w .places }
 
-  well-waiting : (cause : ℕ) → IsCause most cause → eqb (d .running) 0 ≡ false → ltb (d .queued) 2 ≡ true → WellDesk most (waiting cause d)
-  well-waiting cause h r q =
+  well-waiting : (cause : ℕ) → IsCause most cause → waits cause (first d) (second d) ≡ false → eqb (d .running) 0 ≡ false → ltb (d .queued) 2 ≡ true
+      → WellDesk most (waiting cause d)
+  well-waiting cause h m r q =
       record {
         causes = record {
           running-le = k .running-le;
-          queue = queue-more (d .waiting) cause (d .queued) (w .places) h (ltb-true (d .queued) 2 q) (k .queue);
+          queue = queue-more (d .waiting) cause (d .queued) (w .places) h m (ltb-true (d .queued) 2 q) (k .queue);
           served = rw r (or-true (eqb (first (waiting cause d)) 0));
         };
         places = length-set (d .waiting) (d .queued) cause ∙ w .places;
@@ -121,13 +153,14 @@ module _ {most : ℕ} (d : Desk) (w : WellDesk most d) where
 
   pub well-post : (cause : ℕ) → IsCause most cause → WellDesk most (post cause d .desk)
   unfolding post
-  well-post cause h = go (eqb (d .running) 0) (ltb (d .queued) 2) refl refl
+  well-post cause h = go (waits cause (first d) (second d)) (eqb (d .running) 0) (ltb (d .queued) 2) refl refl refl
     where
-      go : (a b : Bool) → eqb (d .running) 0 ≡ a → ltb (d .queued) 2 ≡ b
-          → WellDesk most (cond a (posted (starting cause d) Starts) (cond b (posted (waiting cause d) Waits) (posted d Lost)) .desk)
-      go true b p q = well-starting cause h
-      go false true p q = well-waiting cause h p q
-      go false false p q = w
+      go : (m a b : Bool) → waits cause (first d) (second d) ≡ m → eqb (d .running) 0 ≡ a → ltb (d .queued) 2 ≡ b
+          → WellDesk most (cond m (posted d Waits) (cond a (posted (starting cause d) Starts) (cond b (posted (waiting cause d) Waits) (posted d Lost))) .desk)
+      go true a b e p q = w
+      go false true b e p q = well-starting cause h
+      go false false true e p q = well-waiting cause h e p q
+      go false false false e p q = w
 
   pub well-finish : WellDesk most (finish d .desk)
   unfolding finish

@@ -52,7 +52,7 @@ programWord-lt omb word out h = merge-lt 12 16 (outputMask omb) out (word % 4096
 -- ---- a raised cause
 
 -- only 1 to 4 become interrupts
-enabled-cause : (flags cause : ℕ) → enabled flags cause ≡ true → IsCause causeCount cause
+pub enabled-cause : (flags cause : ℕ) → enabled flags cause ≡ true → IsCause causeCount cause
 unfolding enabled unmasked
 enabled-cause flags cause h = go (eqb cause 1) (eqb cause 2) (eqb cause 3) (eqb cause 4) refl refl refl refl
   where

@@ -111,7 +111,11 @@ unfolding queuedOf
 well-emptied c w =
     well-desk (withFlags (quiet (c .flags)) c) (well-flags c w (quiet (c .flags)) (kept-quiet (c .flags))) empty
     (record {
-      causes = record { running-le = lit≤ tt; queue = record { first-le = lit≤ tt; second-le = lit≤ tt; order = refl; counted = refl }; served = refl };
+      causes = record {
+        running-le = lit≤ tt;
+        queue = record { first-le = lit≤ tt; second-le = lit≤ tt; order = refl; counted = refl; differ = refl };
+        served = refl;
+      };
       places = refl;
     })
 

@@ -1,6 +1,6 @@
--- Document 01, "One input sample", last paragraph, and event kind 7: the running cause and the waiting ones. A cause is any number but 0,
--- which stands for none.
-use mathlib.Core.Bool.{cond}
+-- Document 01, "One input sample", last paragraph, with document 02's request 7, and event kind 7: the running cause and the waiting ones.
+-- A cause is any number but 0, which stands for none.
+use mathlib.Core.Bool.{Bool, cond, _||_}
 use mathlib.Core.List.{List, [], _∷_}
 use Prim.Native.Nat.{ℕ, _+_, _-_}
 use lib.Dec.{eqb, ltb}
@@ -32,6 +32,10 @@ empty = deskOf 0 (0 ∷ 0 ∷ []) 0
 
 -- ---- a cause comes
 
+-- it stands in one of the two places
+abbrev pub waits : ℕ → ℕ → ℕ → Bool
+waits cause first second = eqb first cause || eqb second cause
+
 abbrev pub starting : ℕ → Desk → Desk
 starting cause d = deskOf cause (d .waiting) (d .queued)
 
@@ -42,11 +46,12 @@ waiting cause d = deskOf (d .running) (set (d .waiting) (d .queued) cause) (d .q
 abbrev pub posted : Desk → Outcome → Posted
 posted d outcome = record { desk = d; outcome = outcome }
 
--- none running: it starts; fewer than two waiting: it waits; else it is lost
+-- it waits already: neither added nor lost; none running: it starts; fewer than two waiting: it waits; else it is lost
 unfoldable pub post : ℕ → Desk → Posted
 post cause d =
-    cond (eqb (d .running) 0) (posted (starting cause d) Starts)
-    (cond (ltb (d .queued) 2) (posted (waiting cause d) Waits) (posted d Lost))
+    cond (waits cause (first d) (second d)) (posted d Waits)
+    (cond (eqb (d .running) 0) (posted (starting cause d) Starts)
+    (cond (ltb (d .queued) 2) (posted (waiting cause d) Waits) (posted d Lost)))
 
 -- ---- the routine is done
 

@@ -7,5 +7,6 @@ pub mod Events
 pub mod Sample
 pub mod Idle
 pub mod Interrupts
+pub mod Rows
 pub mod WellFormed
 pub mod Bench

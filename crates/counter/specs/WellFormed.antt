@@ -1,4 +1,4 @@
--- Document 01, "Snapshot, 68 bytes": well formed, by parts and on states.
+-- Document 01, "Snapshot, 68 bytes", with document 02's request 7: well formed, by parts and on states.
 use mathlib.Core.Path.{_≡_}
 use mathlib.Core.Bool.{Bool, true, cond, not, _&&_, _||_, Bool·beq}
 use Prim.Native.Nat.{ℕ, _^_, _<_}
@@ -31,7 +31,7 @@ isNone s =
 
 -- ---- by parts, which are a state's or stand in a snapshot's bytes
 
--- causes up to `most`, second waiting only with a first, first only with one running
+-- causes up to `most`, second waiting only with a first, first only with one running; two that wait differ
 abbrev pub causesFormed : ℕ → ℕ → ℕ → ℕ → Bool
 causesFormed most running first second =
     leb running most
@@ -39,6 +39,7 @@ causesFormed most running first second =
     && leb second most
     && (eqb second 0 || not (eqb first 0))
     && (eqb first 0 || not (eqb running 0))
+    && (eqb second 0 || not (eqb first second))
 
 -- ER 0 or a rule's number, ED = 1 exactly if ER is not 0
 abbrev pub errorFormed : ℕ → ℕ → Bool

@@ -1,7 +1,7 @@
 // The desk: the running cause and the waiting ones. A cause is any number but 0, which stands for none.
 ghost use mathlib.Core.Path.{_≡_};
 ghost use Prim.Native.Nat.{_<_};
-ghost use Rattle.counter.specs.Desk.{queuedOf, empty, starting, waiting, resting, advancing, post, finish};
+ghost use Rattle.counter.specs.Desk.{queuedOf, empty, waits, starting, waiting, resting, advancing, post, finish};
 
 // The waiting causes stand at the front of `waiting`, `queued` of them, in order of arrival.
 pub struct Desk {
@@ -10,7 +10,7 @@ pub struct Desk {
     pub queued: u8,
 }
 
-// What becomes of a cause that is posted.
+// What becomes of a cause that is posted; one that waited before waits.
 pub enum Outcome {
     Starts,
     Waits,
@@ -57,6 +57,13 @@ pub fn empty() -> Desk
     }
 }
 
+// Whether the cause stands in one of the two places.
+fn waits(cause: u8, first: u8, second: u8) -> bool
+    ensures { λ r. ⌜ r ≡ waits cause first second ⌝ }
+{
+    (first == cause) | (second == cause)
+}
+
 fn start(d: Desk, cause: u8) -> Desk
     ensures { λ r. ⌜ r ≡ starting cause d ⌝ }
 {
@@ -101,10 +108,16 @@ fn advance(d: Desk) -> Desk
     }
 }
 
-// A cause comes: it starts, waits or is lost.
+// A cause comes: it waits already, starts, waits or is lost.
 pub fn post(d: Desk, cause: u8) -> Posted
     ensures { λ r. ⌜ r ≡ post cause d ⌝ }
 {
+    let first = d.waiting[0];
+    let second = d.waiting[1];
+    if waits(cause, first, second) {
+        let outcome = Outcome::Waits;
+        return Posted { desk: d, outcome };
+    }
     if d.running == 0 {
         let desk = start(d, cause);
         Posted {

@@ -16,7 +16,7 @@ const LEVELS: u8 = 15;
 // The greatest cause.
 const CAUSES: u8 = 4;
 
-// Each cause is `most` at most, a second waits only with a first, a first only with one running.
+// Each cause is `most` at most, a second waits only with a first, a first only with one running, and two that wait differ.
 pub fn causes_formed(most: u8, running: u8, first: u8, second: u8) -> bool
     ensures { λ r. ⌜ r ≡ causesFormed most running first second ⌝ }
 {
@@ -25,6 +25,7 @@ pub fn causes_formed(most: u8, running: u8, first: u8, second: u8) -> bool
         & (second <= most)
         & ((second == 0) | !(first == 0))
         & ((first == 0) | !(running == 0))
+        & ((second == 0) | !(first == second))
 }
 
 // ER is 0 or a rule's number, and ED is 1 exactly if ER is not 0.

@@ -5,12 +5,14 @@ use mathlib.Core.Bool.{Bool, true, false, _&&_, and-true}
 use mathlib.Core.List.{List}
 use Prim.Native.Nat.{ℕ, _≤_}
 use borrow.Author.Tests.{eq-eqb}
+use lib.Dec.{eqb}
 use Rattle.word.specs.Masks.{bit}
 use Rattle.word.specs.Part.{part}
 use Rattle.counter.specs.declared.state.Counter.{Counter}
 use Rattle.counter.specs.Desk.{first, second}
 use Rattle.counter.specs.WellFormed.{partsFormed, wellFormed}
 use Rattle.counter.proofs.Masked.{mask-formed}
+use Rattle.counter.proofs.Merging.{equal-formed}
 use Rattle.snapshot.specs.Widths.{snapshotSize}
 use Rattle.snapshot.specs.Snapshots.{decode, stateAt}
 use Rattle.snapshot.specs.FormedBytes.{formedAt, formed}
@@ -25,6 +27,10 @@ formed-decode b =
 -- one whose active mask has a bit that is no output is not
 pub formed-mask : (b : List ℕ) (n : ℕ) → 12 ≤ n → bit (decode b .active .omb) n ≡ true → formed b ≡ false
 formed-mask b n l h = formed-decode b ∙ mask-formed (decode b) n l h
+
+-- one in which two equal causes wait is not
+pub formed-equal : (b : List ℕ) → eqb (second (decode b .desk)) 0 ≡ false → first (decode b .desk) ≡ second (decode b .desk) → formed b ≡ false
+formed-equal b two same = formed-decode b ∙ equal-formed (decode b) two same
 
 abbrev byParts : Counter → Bool
 byParts c = partsFormed (c .active) (c .out) (c .er) (c .flags) (c .levels) (c .desk .running) (first (c .desk)) (second (c .desk))

@@ -6,7 +6,7 @@ use Prim.Native.Nat.{ℕ, zero, suc, _+_, _-_, _*_, _/_, _%_, _^_, _<_, _≤_, m
 use native.Mathlib.Nat.{one-mul, mul-comm, mod-eq-of-lt, mod-lt, mul-add-mod-self-right, pow-suc, sub-zero}
 use native.Mathlib.Nat.{div-div-eq-div-mul, div-one, zero-div, div-eq-of-lt, le-of-suc-le-suc, lt-of-le-of-lt, lt-of-lt-of-le}
 use native.Mathlib.Omega.{arith}
-use borrow.Author.Tests.{eqb-false}
+use borrow.Author.Tests.{eqb-true, eqb-false}
 use lib.Bits.{bitAnd, bitOr, and-shr, or-shr, and-step, or-step, and-le-l, or-lt, and-mask}
 use lib.Dec.{eqb, eqb·suc-suc, eqb·zero-suc, eqb·suc-zero, lit<}
 use lib.Pow.{pow-lt, pow-mono, pow-pos}
@@ -194,3 +194,12 @@ unfolding merge
 merge-lt j k mask new old h b =
     or-lt j (bitAnd new mask) (bitAnd old (2 ^ k - 1 - mask)) (lt-of-le-of-lt (and-le-l new mask) h)
     (lt-of-le-of-lt (and-le-l old (2 ^ k - 1 - mask)) b)
+
+-- ---- setting a bit that is 1 already
+
+pub setBit-on : (k w n : ℕ) → w < 2 ^ k → n < k → bit w n ≡ true → setBit w n ≡ w
+setBit-on k w n h b on = word-ext k (setBit w n) w (setBit-lt k w n h b) h (λ m l. bit-setBit w n m ∙ go m (eqb n m) refl)
+  where
+    go : (m : ℕ) (e : Bool) → eqb n m ≡ e → cond e true (bit w m) ≡ bit w m
+    go m true e = sym on ∙ ap (bit w) (eqb-true n m e)
+    go m false e = refl
