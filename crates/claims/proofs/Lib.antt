@@ -6,3 +6,4 @@ pub mod Differing
 pub mod Resetting
 pub mod Receiving
 pub mod Masking
+pub mod Merging
