@@ -7,7 +7,7 @@
  *   snapshot, 68 bytes   0-25 staged settings: PFN, MOD (2 bytes each, signed), HIP, LOP, OVF, UNF (4, signed),
  *                        OMB, HPO, LPO (2, unsigned); 26-51 active settings likewise; 52-55 ACC (signed);
  *                        56-57 outputs; 58-59 ER; 60-63 flags; 64 input levels; 65 running cause;
- *                        66 and 67 waiting causes, in order of arrival
+ *                        66 and 67 waiting causes, in order of arrival, which differ where there are two
  *   event, 12 bytes      0 kind, 1 sub, 2-3 zero, 4-7 value (signed), 8-11 clock stamp, never read
  *   trace image          header of six unsigned 4-byte numbers: event count E, event offset 24, snapshot count
  *                        S = E/K + 1, snapshot offset 24 + 12E, spacing K, zero; then the events; then the table of
@@ -29,8 +29,8 @@
  * The version of this header: in words, and as one number, major * 10000 + minor * 100 + patch. A program compares the
  * number with hsc_version() at its start, to see that header and archive belong together.
  */
-#define HSC_VERSION "0.7.0"
-#define HSC_VERSION_NUMBER 700
+#define HSC_VERSION "0.8.0"
+#define HSC_VERSION_NUMBER 800
 
 #define HSC_HEADER_SIZE 24
 #define HSC_EVENT_SIZE 12
@@ -167,7 +167,7 @@ enum hsc_field {
 /* The flags, by their bits in the flag word. */
 enum hsc_flag {
     HSC_FLAG_UIE = 0,
-    HSC_FLAG_UIL = 1,
+    HSC_FLAG_UIL = 1, /* a cause was lost: one ran, and two others waited */
     HSC_FLAG_FE = 2,
     HSC_FLAG_AS = 3,
     HSC_FLAG_ED = 4,

@@ -1,6 +1,6 @@
-/* Calls the library as the depot's program does: a fresh snapshot is stepped and read back, mode 7 is reset, masks are loaded, an
- * image is replayed and mended, two traces are compared, events are drawn, two tables are told apart by their bytes, an image is
- * taken in chunks, and refusals are met. One line for each check; the first that fails ends the run with status 1.
+/* Calls the library as the depot's program does: a fresh snapshot is stepped and read back, mode 7 is reset, masks are loaded,
+ * causes wait, an image is replayed and mended, two traces are compared, events are drawn, two tables are told apart by their bytes,
+ * an image is taken in chunks, and refusals are met. One line for each check; the first that fails ends the run with status 1.
  *
  *   rt staticlib hsc
  *   cc -std=c11 -Wall -Wextra -Werror -pedantic -I include tests/c/first.c target/staticlib/libhsc.a -o target/first
@@ -206,6 +206,52 @@ static void masks(void) {
 
     put(snapshot, 46, 2, 0x1fff);
     check_unread("a snapshot with bit 12 in the active mask is refused by 6", HSC_REFUSED_SNAPSHOT, snapshot, sizeof snapshot);
+}
+
+/* One count in mode 2: up with input 1 off, down with it on. */
+static void count(uint8_t snapshot[HSC_SNAPSHOT_SIZE], int up) {
+    step(snapshot, HSC_INPUT_SAMPLE, 0, 0);
+    step(snapshot, HSC_INPUT_SAMPLE, 0, up ? 1 : 3);
+}
+
+/* The causes, and whether one was lost. */
+static void check_causes(const char *what, const uint8_t snapshot[HSC_SNAPSHOT_SIZE], int32_t running, int32_t first, int32_t second,
+                         int32_t lost) {
+    int32_t fields[HSC_FIELD_COUNT];
+    read_fields(snapshot, fields);
+    check(what, fields[HSC_RUNNING] == running && fields[HSC_FIRST_WAITING] == first && fields[HSC_SECOND_WAITING] == second &&
+                    (fields[HSC_FLAGS] >> HSC_FLAG_UIL & 1) == lost);
+}
+
+static void causes(void) {
+    uint8_t snapshot[HSC_SNAPSHOT_SIZE];
+    fresh(snapshot);
+    step(snapshot, HSC_DEVICE_WRITE, HSC_DEVICE_PFN, 3);
+    step(snapshot, HSC_DEVICE_WRITE, HSC_DEVICE_MOD, HSC_MODE_DIRECTION);
+    step(snapshot, HSC_STAGED_WRITE, HSC_STAGED_HIP, 1);
+    step(snapshot, HSC_STAGED_WRITE, HSC_STAGED_LOP, 0);
+    step(snapshot, HSC_STAGED_WRITE, HSC_STAGED_OVF, 1);
+    step(snapshot, HSC_FLAG_WRITE, HSC_FLAG_SP, 1);
+    step(snapshot, HSC_FLAG_WRITE, HSC_FLAG_FE, 1);
+    step(snapshot, HSC_FLAG_WRITE, HSC_FLAG_UIE, 1);
+    step(snapshot, HSC_FLAG_WRITE, HSC_FLAG_CE, 1);
+    count(snapshot, 1);
+    check_causes("the high preset starts", snapshot, HSC_HIGH_PRESET, 0, 0, 0);
+    count(snapshot, 0);
+    count(snapshot, 1);
+    check_causes("the low preset waits, then the high one too, which runs", snapshot, HSC_HIGH_PRESET, HSC_LOW_PRESET, HSC_HIGH_PRESET, 0);
+    for (int i = 0; i < 1000; i++) {
+        count(snapshot, 0);
+        count(snapshot, 1);
+    }
+    check_causes("a thousand times more, and none is lost", snapshot, HSC_HIGH_PRESET, HSC_LOW_PRESET, HSC_HIGH_PRESET, 0);
+    count(snapshot, 1);
+    check_causes("an overflow finds no place and is lost", snapshot, HSC_HIGH_PRESET, HSC_LOW_PRESET, HSC_HIGH_PRESET, 1);
+    step(snapshot, HSC_ROUTINE_DONE, 0, 0);
+    check_causes("the routine done, the low preset starts", snapshot, HSC_LOW_PRESET, HSC_HIGH_PRESET, 0, 1);
+
+    snapshot[67] = snapshot[66];
+    check_unread("a snapshot in which two equal causes wait is refused by 6", HSC_REFUSED_SNAPSHOT, snapshot, sizeof snapshot);
 }
 
 static void refusals(void) {
@@ -616,6 +662,7 @@ int main(void) {
     steps();
     resets();
     masks();
+    causes();
     refusals();
     images();
     comparisons();

@@ -153,3 +153,28 @@ try 0 check before.trace
 try 0 mend before.trace 3 one-event.patch
 try 0 show before.trace 1
 says out 'ER       6, OMB has bits of 12 to 15, which are no outputs'
+
+# A table that was made when a cause that waits already was added, and lost where two waited: an auger rocks over its high preset. After
+# 20 events the preset stood in both waiting places, and UIL was set.
+{
+    printf '%s\n' 'device PFN 3' 'device MOD 2' 'stage HIP 1' 'flag FE 1' 'flag UIE 1' 'flag CE 1' 'flag SP 1' 'inputs 0'
+    for _ in 1 2 3; do
+        printf '%s\n' 'inputs none' 'inputs 0 1' 'inputs none' 'inputs 0'
+    done
+    echo 'ACC 7'
+} > rocking.txt
+try 0 build rocking.txt 10 rocking.trace
+cp rocking.trace before.trace
+over before.trace $((24 + 21 * 12 + 2 * 68 + 60)) 563175 33686017
+keep before.trace try 3 check before.trace
+prints << END
+not true: snapshot 2 differs first, 1 of 3 differ
+  flags: stored 000897e7, replayed 000897e5, different: UIL
+  second waiting: stored 2, replayed 0
+  the stored snapshot is not well formed
+END
+keep before.trace refuse 6 2 mend before.trace 20 one-event.patch
+try 0 replay before.trace
+same before.trace rocking.trace
+try 0 check before.trace
+try 0 mend before.trace 20 one-event.patch
