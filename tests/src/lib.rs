@@ -1,4 +1,4 @@
-//! An independent model of document 01 and of document 02's requests 1 to 6, the harness that
+//! An independent model of document 01 and of document 02's requests 1 to 7, the harness that
 //! runs the same cases on the model and on a subject, and the declarations of the archive.
 
 #[cfg(feature = "archive")]

@@ -1,5 +1,5 @@
 //! Document 01's own rows of the counter: the bench table, the load rows, single events and
-//! the snapshot's layout; and the rows of document 02, requests 4 and 6.
+//! the snapshot's layout; and the rows of document 02, requests 4, 6 and 7.
 
 use hsc_tests::generate::event::event;
 use hsc_tests::generate::state::{loaded, p};
@@ -19,6 +19,8 @@ const SP_OFF: (u8, u8, i32) = (4, 6, 0);
 /// One count in mode 2, from levels 0.
 const UP: (u8, u8, i32) = (1, 0, 1);
 const DOWN: (u8, u8, i32) = (1, 0, 3);
+/// Levels 0 again, for another count.
+const BACK: (u8, u8, i32) = (1, 0, 0);
 
 fn after(subject: &dyn Subject, counter: Counter, events: &[(u8, u8, i32)]) -> Counter {
     let mut snapshot = encode(&counter);
@@ -86,6 +88,103 @@ fn bench_row_l() {
         assert_eq!((none.running, none.waiting), (0, [0, 0]));
         assert_eq!(none.flags & INTERRUPTS, OFI);
         assert_eq!(after(subject, none, &[DONE]), none);
+    });
+}
+
+#[test]
+fn a_cause_that_waits_comes_again() {
+    // Running, waiting, a count from this ACC; then who waits, and whether one is lost.
+    let rows = [
+        (2, [0, 0], 3, UP, [2, 0], false),
+        (2, [2, 0], 3, UP, [2, 0], false),
+        (2, [1, 0], 3, UP, [1, 2], false),
+        (2, [2, 1], 3, UP, [2, 1], false),
+        (2, [1, 2], 3, UP, [1, 2], false),
+        (2, [1, 4], 3, UP, [1, 4], true),
+        (4, [1, 0], -1, DOWN, [1, 0], false),
+        (4, [1, 2], -1, DOWN, [1, 2], false),
+        (4, [2, 1], -1, DOWN, [2, 1], false),
+        (4, [2, 3], -1, DOWN, [2, 3], true),
+        (1, [3, 0], -3, DOWN, [3, 0], false),
+        (3, [2, 3], -3, DOWN, [2, 3], false),
+        (3, [2, 4], -3, DOWN, [2, 4], true),
+        (4, [4, 0], 5, UP, [4, 0], false),
+        (1, [4, 3], 5, UP, [4, 3], false),
+        (4, [1, 3], 5, UP, [1, 3], true),
+    ];
+    let settings = Settings { omb: 3, hpo: 1, lpo: 2, ..p() };
+    on_each(|subject| {
+        for (running, waiting, from, count, then, lost) in rows {
+            let row = format!("{running} {waiting:?}, from {from}");
+            let before = Counter { running, waiting, ..loaded(settings, from) };
+            let counter = after(subject, before, &[count]);
+            assert_eq!((counter.running, counter.waiting), (running, then), "{row}");
+            assert_eq!(counter.has(UIL), lost, "{row}");
+            // One that was lost before stays told, and the outputs are those of a cause that starts.
+            let told = Counter { flags: before.flags | UIL, ..before };
+            assert_eq!(after(subject, told, &[count]), Counter { flags: counter.flags | UIL, ..counter });
+            let first = after(subject, loaded(settings, from), &[count]);
+            assert_eq!((counter.outputs, counter.acc), (first.outputs, first.acc), "{row}");
+            // FE, UIE and the masks are asked first.
+            for off in [FE, UIE, MASKS] {
+                let masked = Counter { flags: before.flags & !off, ..before };
+                let counter = after(subject, masked, &[count]);
+                assert_eq!((counter.waiting, counter.has(UIL)), (waiting, false), "{row}");
+            }
+        }
+    });
+}
+
+#[test]
+fn an_auger_that_rocks() {
+    on_each(|subject| {
+        // Over the high preset: it runs, and waits once.
+        let mut counter = after(subject, loaded(p(), 3), &[UP]);
+        for _ in 0..100 {
+            counter = after(subject, counter, &[BACK, DOWN, BACK, UP]);
+            assert_eq!((counter.acc, counter.running, counter.waiting), (4, 2, [2, 0]));
+        }
+        assert!(!counter.has(UIL));
+        // Over both presets.
+        let [downs, ups] = [DOWN, UP].map(|count| [BACK, count].repeat(6));
+        for _ in 0..100 {
+            counter = after(subject, counter, &downs);
+            assert_eq!((counter.acc, counter.running, counter.waiting), (-2, 2, [2, 1]));
+            counter = after(subject, counter, &ups);
+            assert_eq!((counter.acc, counter.running, counter.waiting), (4, 2, [2, 1]));
+        }
+        assert!(!counter.has(UIL));
+        // Past the limit, a third cause finds no place.
+        let lost = after(subject, counter, &[BACK, UP, BACK, UP]);
+        assert_eq!((lost.acc, lost.running, lost.waiting), (-3, 2, [2, 1]));
+        assert!(lost.has(UIL | OF));
+        // Taken from the desk one after another, and free to wait again.
+        let done = after(subject, counter, &[DONE]);
+        assert_eq!((done.running, done.waiting), (2, [1, 0]));
+        let again = after(subject, done, &[BACK, DOWN, BACK, UP]);
+        assert_eq!((again.running, again.waiting), (2, [1, 2]));
+    });
+}
+
+#[test]
+fn snapshots_with_causes_that_wait() {
+    on_each(|subject| {
+        let mut fields = [0; 32];
+        for running in 0..6 {
+            for first in 0..6 {
+                for second in 0..6 {
+                    let formed = [running, first, second].iter().all(|&cause| cause <= 4)
+                        && match [first, second] {
+                            [0, 0] => true,
+                            [first, second] => running != 0 && first != 0 && first != second,
+                        };
+                    let counter = Counter { running, waiting: [first, second], ..Counter::fresh() };
+                    let refusal = if formed { 0 } else { 6 };
+                    let desk = [running, first, second];
+                    assert_eq!(subject.read(&encode(&counter), &mut fields), refusal, "{desk:?}");
+                }
+            }
+        }
     });
 }
 

@@ -178,7 +178,7 @@ fn well_formed() {
         let mut snapshot = encode(&Counter::fresh());
         snapshot[..26].fill(0xff);
         snapshot[61] = 0xff;
-        snapshot[65..].copy_from_slice(&[4, 4, 4]);
+        snapshot[65..].copy_from_slice(&[4, 4, 3]);
         assert_eq!(subject.read(&snapshot, &mut [0; 32]), 0);
     });
 }

@@ -45,6 +45,20 @@ fn accumulator(rng: &mut Rng, active: &Settings) -> i32 {
     }
 }
 
+/// A running cause and two that wait, or none from one of them on; the running one may wait too.
+fn causes(rng: &mut Rng) -> [u8; 3] {
+    let [mut running, first, mut second] = [(); 3].map(|()| 1 + rng.below(4) as u8);
+    if second == first {
+        second = first % 4 + 1;
+    }
+    if rng.once_in(4) {
+        running = first;
+    }
+    let mut causes = [running, first, second];
+    causes[rng.below(4)..].fill(0);
+    causes
+}
+
 /// A well-formed state.
 pub fn state(rng: &mut Rng) -> Counter {
     let loaded = !rng.once_in(8);
@@ -65,12 +79,7 @@ pub fn state(rng: &mut Rng) -> Counter {
     if loaded {
         bits |= flags::LOADED;
     }
-    let mut causes = [(); 3].map(|()| 1 + rng.below(4) as u8);
-    causes[rng.below(4).min(2)..].fill(0);
-    if rng.once_in(4) {
-        causes = [1 + rng.below(4) as u8; 3];
-    }
-    let [running, first, second] = causes;
+    let [running, first, second] = causes(rng);
     Counter {
         staged,
         active,
@@ -106,6 +115,9 @@ const RULED: [usize; 10] = [57, 58, 59, 60, 62, 63, 64, 65, 66, 67];
 /// Where a snapshot's active OMB begins.
 pub const ACTIVE_OMB: usize = 46;
 
+/// Where a snapshot has its running cause, before the two that wait.
+pub const RUNNING: usize = 65;
+
 /// A snapshot, at times damaged in a byte or two, seldom 68 random bytes.
 pub fn snapshot(rng: &mut Rng) -> snapshot::Bytes {
     let mut bytes = snapshot::encode(&state(rng));
@@ -116,6 +128,7 @@ pub fn snapshot(rng: &mut Rng) -> snapshot::Bytes {
         3 => bytes[rng.pick(&RULED)] = rng.below(20) as u8,
         4 => bytes[rng.pick(&RULED)] ^= 1 << rng.below(8),
         5 => bytes[ACTIVE_OMB + 1] |= 16 << rng.below(4),
+        6 => bytes[RUNNING + 2] = bytes[RUNNING + 1],
         _ => {}
     }
     bytes

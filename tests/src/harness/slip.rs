@@ -2,6 +2,7 @@
 //! harness catches it.
 
 mod load;
+mod post;
 mod reader;
 mod sample;
 
@@ -10,12 +11,13 @@ use std::ops::Range;
 
 use crate::generate::image::Parts;
 use crate::generate::parts::BLOCK;
-use crate::generate::state::ACTIVE_OMB;
+use crate::generate::state::{ACTIVE_OMB, RUNNING};
 use crate::model::counter::{Counter, OUTPUTS};
 use crate::model::event::{self, Event};
 use crate::model::{flags, snapshot, Refusal};
 use crate::subject::{Model, Subject};
 use load::Loading;
+use post::Posting;
 use sample::Sampling;
 
 pub use reader::Reading;
@@ -41,6 +43,12 @@ pub enum Slip {
     MaskTaken,
     /// Does not take a snapshot with ER 6.
     Error6Refused,
+    /// A cause that comes is posted by another rule, in a step.
+    Post(Posting),
+    /// Takes a snapshot whose two waiting causes are equal.
+    EqualTaken,
+    /// Does not take a snapshot whose running cause waits too.
+    RunningWaitsRefused,
     ReplayRefusesAll,
     MendTouchesNothing,
     /// Mends once, then says it did and touches nothing.
@@ -110,6 +118,8 @@ impl Slip {
             Slip::StagedMask,
             Slip::MaskTaken,
             Slip::Error6Refused,
+            Slip::EqualTaken,
+            Slip::RunningWaitsRefused,
             Slip::ReplayRefusesAll,
             Slip::MendTouchesNothing,
             Slip::MendNods(Cell::new(false)),
@@ -142,6 +152,7 @@ impl Slip {
         ];
         all.extend(Sampling::ALL.map(Slip::Sample));
         all.extend(Loading::ALL.map(Slip::Load));
+        all.extend(Posting::ALL.map(Slip::Post));
         all.extend(Reading::all().into_iter().map(Slip::Read));
         all
     }
@@ -176,6 +187,9 @@ impl Subject for Slip {
             Slip::Sample(rule) if event[0] == 1 => {
                 counter = rule.sampled(snapshot::decode(old[..].try_into().unwrap()), event[4]);
             }
+            Slip::Post(rule) if event[0] == 1 => {
+                counter = rule.sampled(snapshot::decode(old[..].try_into().unwrap()), event[4]);
+            }
             Slip::Load(rule) => {
                 let event = Event::from_bytes(event.try_into().unwrap());
                 counter = rule.stepped(snapshot::decode(old[..].try_into().unwrap()), event);
@@ -199,6 +213,18 @@ impl Subject for Slip {
             (Slip::Error6Refused, 0) if fields[ER] == 6 => {
                 *fields = painted;
                 return 6;
+            }
+            (Slip::EqualTaken, 6) if snapshot[RUNNING + 1] == snapshot[RUNNING + 2] => {
+                let mut one = snapshot.to_vec();
+                one[RUNNING + 2] = 0;
+                return Model.read(&one, fields);
+            }
+            (Slip::RunningWaitsRefused, 0) => {
+                let (running, waiting) = snapshot[RUNNING..].split_first().unwrap();
+                if *running != 0 && waiting.contains(running) {
+                    *fields = painted;
+                    return 6;
+                }
             }
             _ => {}
         }

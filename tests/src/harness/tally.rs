@@ -21,7 +21,7 @@ pub struct Tally {
 }
 
 /// Each heading with the numbers that must be reached under it.
-const REQUIRED: [(&str, &[u32]); 91] = [
+const REQUIRED: [(&str, &[u32]); 97] = [
     (CHECK, &[0, 1, 9]),
     (STEP, &[0, 5, 6, 9]),
     (READ, &[0, 6, 9]),
@@ -40,6 +40,7 @@ const REQUIRED: [(&str, &[u32]); 91] = [
     (READ_ER, ERRORS),
     (READ_STAGED, &[0, 1]),
     (READ_OTHER_BIT, OTHER_BITS),
+    (READ_EQUAL, CAUSES),
     (RESET, &[1, 3, 5, 7]),
     (HELD, &[1, 3, 5, 7]),
     (RESET_DESPITE, &[0, 1, 2, 3]),
@@ -52,6 +53,11 @@ const REQUIRED: [(&str, &[u32]); 91] = [
     (RAISED, CAUSES),
     (STARTED, CAUSES),
     (WAITED, CAUSES),
+    (WAITED_RUNNING, CAUSES),
+    (MERGED, CAUSES),
+    (MERGED_AT, &[0, 1, 2]),
+    (MERGED_RUNNING, CAUSES),
+    (MERGED_UIL, &[0, 1]),
     (LOST, CAUSES),
     (DROPPED, CAUSES),
     (STOP_INSIDE, TABLES),
@@ -165,9 +171,16 @@ const PRESET_OTHER_BITS: &str = "preset load with such bits staged: ER";
 const READ_ER: &str = "read: ER";
 const READ_STAGED: &str = "read: staged OMB 0 outputs alone, 1 such bits too";
 const READ_OTHER_BIT: &str = "read refused for one bit of the active OMB alone: bit";
+const READ_EQUAL: &str = "read refused for two equal waiting causes alone: cause";
 const RAISED: &str = "cause raised";
 const STARTED: &str = "cause started";
 const WAITED: &str = "cause waited";
+const WAITED_RUNNING: &str = "cause waited that runs too";
+const MERGED: &str = "cause merged";
+const MERGED_AT: &str =
+    "cause merged: 0 with the only one that waits, 1 with the first of two, 2 with the second";
+const MERGED_RUNNING: &str = "cause merged that runs too";
+const MERGED_UIL: &str = "cause merged: UIL";
 const LOST: &str = "cause lost";
 const DROPPED: &str = "cause dropped";
 const STOP_INSIDE: &str =
@@ -290,7 +303,7 @@ impl Tally {
         }
     }
 
-    /// Counts what a reading met of errors and masks.
+    /// Counts what a reading met of errors, masks and waiting causes.
     pub fn read(&mut self, case: &Case, answer: &Answer) {
         if answer.number() == 9 {
             return;
@@ -305,6 +318,11 @@ impl Tally {
         counter.active.omb &= OUTPUTS;
         if others.is_power_of_two() && counter.is_well_formed() {
             self.add(READ_OTHER_BIT, others.trailing_zeros());
+        }
+        let [first, second] = counter.waiting;
+        counter.waiting = [first, 0];
+        if others == 0 && first == second && counter.is_well_formed() {
+            self.add(READ_EQUAL, first.into());
         }
     }
 
@@ -637,10 +655,30 @@ impl Tally {
             let heading = match fate {
                 Fate::Started => STARTED,
                 Fate::Waited => WAITED,
+                Fate::Merged => MERGED,
                 Fate::Lost => LOST,
                 Fate::Dropped => DROPPED,
             };
             self.add(heading, cause.into());
+            self.posted(counter, cause, fate);
+        }
+    }
+
+    /// Counts where a cause waits, by the counter after it.
+    fn posted(&mut self, counter: &Counter, cause: u8, fate: Fate) {
+        let runs = counter.running == cause;
+        match fate {
+            Fate::Waited if runs => self.add(WAITED_RUNNING, cause.into()),
+            Fate::Merged => {
+                let [first, second] = counter.waiting;
+                let place = if second == 0 { 0 } else { 1 + u32::from(first != cause) };
+                self.add(MERGED_AT, place);
+                self.add(MERGED_UIL, counter.has(flags::UIL).into());
+                if runs {
+                    self.add(MERGED_RUNNING, cause.into());
+                }
+            }
+            _ => {}
         }
     }
 

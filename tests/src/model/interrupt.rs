@@ -1,4 +1,5 @@
-//! Causes and the queue of interrupts (end of "One input sample").
+//! Causes and the queue of interrupts (end of "One input sample"; causes that wait already by
+//! document 02, request 7).
 
 use super::counter::Counter;
 use super::flags;
@@ -13,6 +14,8 @@ pub const OVERFLOW: u8 = 4;
 pub enum Fate {
     Started,
     Waited,
+    /// It waited already.
+    Merged,
     Lost,
     Dropped,
 }
@@ -22,6 +25,8 @@ impl Counter {
         let mask = flags::LPM << (cause - 1);
         if !self.has(flags::FE | flags::UIE | mask) {
             Fate::Dropped
+        } else if self.waiting.contains(&cause) {
+            Fate::Merged
         } else if self.running == 0 {
             self.start(cause);
             Fate::Started
