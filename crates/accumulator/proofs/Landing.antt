@@ -46,7 +46,7 @@ then f g = (λ a. g .0 (f .0 a), λ c. f .1 (g .1 c))
 -- ---- up
 
 module _ (single : Bool) (acc hip ovf unf : ℤ) where
-  up-cause : up single acc hip ovf unf .cause ≡ cond (leZ ovf acc) overflow (cond (eqZ (acc +ℤ pos 1) hip) highPreset 0)
+  pub up-cause : up single acc hip ovf unf .cause ≡ cond (leZ ovf acc) overflow (cond (eqZ (acc +ℤ pos 1) hip) highPreset 0)
   unfolding up
   up-cause = simp (cause-cond, either)
 
@@ -61,7 +61,7 @@ module _ (single : Bool) (acc hip ovf unf : ℤ) where
 -- ---- down
 
 module _ (acc lop ovf unf : ℤ) where
-  down-cause : down acc lop ovf unf .cause ≡ cond (leZ acc unf) underflow (cond (eqZ (acc -ℤ pos 1) lop) lowPreset 0)
+  pub down-cause : down acc lop ovf unf .cause ≡ cond (leZ acc unf) underflow (cond (eqZ (acc -ℤ pos 1) lop) lowPreset 0)
   unfolding down
   down-cause = simp cause-cond
 

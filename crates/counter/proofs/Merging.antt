@@ -1,6 +1,6 @@
 -- A cause that waits already changes nothing when it comes again, and UIL is set by one that is lost alone.
 use mathlib.Core.Path.{_≡_, refl, sym, ap, _∙_}
-use mathlib.Core.Bool.{Bool, true, false, cond, not, _&&_, _||_, and-false, or-true, or-false, or-assoc, false≢true}
+use mathlib.Core.Bool.{Bool, true, false, cond, not, _&&_, _||_, and-false, or-true, or-false, or-assoc}
 use mathlib.Core.List.{List, [], _∷_}
 use Prim.Native.Nat.{ℕ, zero, suc, _<_}
 use native.Mathlib.Omega.{arith}
@@ -21,6 +21,7 @@ use Rattle.counter.specs.Rows.{loses, raiseAll, lostIn}
 use Rattle.counter.proofs.Changes.{Well}
 use Rattle.counter.proofs.Flags.{started-uil}
 use Rattle.counter.proofs.Formed.{formed-parts}
+use Rattle.counter.proofs.Queue.{queue-differ}
 use Rattle.counter.proofs.Masked.{never}
 
 -- ---- a cause comes, by what the desk's three tests say
@@ -120,9 +121,9 @@ raise-all-uil (cause ∷ row) c = raise-all-uil row (raise cause c) ∙ rw (rais
 
 -- two that wait differ
 pub waiting-differ : (c : Counter) → wellFormed c ≡ true → eqb (second (c .desk)) 0 ≡ false → first (c .desk) ≡ second (c .desk) → ⊥
-waiting-differ c formed two same =
+waiting-differ c formed two =
     let d : Desk = c .desk in
-    false≢true (sym (rw (two, eq-eqb (first d) (second d) same)) ∙ formed-parts c formed .causes .queue .differ)
+    queue-differ (first d) (second d) (d .queued) two (formed-parts c formed .causes .queue)
 
 pub equal-formed : (c : Counter) → eqb (second (c .desk)) 0 ≡ false → first (c .desk) ≡ second (c .desk) → wellFormed c ≡ false
 equal-formed c two same = never (wellFormed c) (λ formed. waiting-differ c formed two same)

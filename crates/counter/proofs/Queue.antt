@@ -1,10 +1,10 @@
 -- The desk stays well formed, whatever the greatest cause is: a cause that starts, waits or is lost, and a routine that is done.
-use mathlib.Core.Path.{_≡_, refl, _∙_}
-use mathlib.Core.Bool.{Bool, true, false, cond, not, _||_, or-true, true≢false}
+use mathlib.Core.Path.{_≡_, refl, sym, _∙_}
+use mathlib.Core.Bool.{Bool, true, false, cond, not, _||_, or-true, false≢true, true≢false}
 use mathlib.Core.List.{List, [], _∷_}
 use Prim.Native.Nat.{ℕ, zero, suc, _+_, _-_, _≤_, _<_}
 use native.Mathlib.Omega.{arith}
-use borrow.Author.Tests.{ltb-true, ltb-false, eqb-true, eqb-false}
+use borrow.Author.Tests.{ltb-true, ltb-false, eqb-true, eqb-false, eq-eqb}
 use lib.Dec.{eqb, ltb}
 use lib.ListN.{length, getD, set, length-set}
 use Rattle.counter.specs.declared.desk.Desk.{Desk}
@@ -65,6 +65,10 @@ module _ {most : ℕ} where
       go true y e = absurd (omega (arith, two))
       go false true e = absurd (omega (arith, two))
       go false false e = (refl, refl)
+
+  -- two that wait differ
+  pub queue-differ : (a b n : ℕ) → eqb b 0 ≡ false → Queue most a b n → a ≡ b → ⊥
+  queue-differ a b n two q same = false≢true (sym (rw (two, eq-eqb a b same)) ∙ q .differ)
 
   -- one more cause behind those that wait, which it is none of
   queue-more : (l : List ℕ) (cause n : ℕ) → length l ≡ 2 → IsCause most cause → waits cause (getD l 0 0) (getD l 1 0) ≡ false → n < 2

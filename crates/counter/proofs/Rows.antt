@@ -1,20 +1,19 @@
 -- Where every cause that comes is one of two, and so are those that wait, none is lost: over a row of causes, and over a row of samples.
-use mathlib.Core.Path.{_≡_, refl, sym, ap, _∙_}
-use mathlib.Core.Bool.{Bool, true, false, cond, not, _&&_, _||_, and-false, or-true, or-false, false≢true, true≢false}
-use mathlib.Core.Logic.{_⊎_, inl, inr, ⊎-elim}
+use mathlib.Core.Path.{_≡_, refl, sym, _∙_}
+use mathlib.Core.Bool.{Bool, true, false, cond, not, _&&_, and-false, or-true, or-false, true≢false}
+use mathlib.Core.Logic.{_⊎_, inl, inr}
 use mathlib.Core.List.{List, [], _∷_, List·Mem, mem-cons-self, mem-cons-of-mem}
 use Prim.Native.Nat.{ℕ, zero, suc}
 use borrow.Author.Tests.{eqb-true, eq-eqb}
 use lib.Dec.{eqb, ltb}
-use lib.IntN.{ℤ, pos, _+ℤ_, _-ℤ_}
+use lib.IntN.{pos, _+ℤ_, _-ℤ_}
 use lib.Signed.{leZ}
 use lib.ListN.{getD, set}
 use Rattle.word.specs.Masks.{bit}
 use Rattle.word.specs.TwosComplement.{eqZ}
 use Rattle.word.proofs.Branches.{cond-cases}
-use Rattle.accumulator.specs.declared.Counted.{Counted}
 use Rattle.accumulator.specs.Causes.{lowPreset, highPreset, underflow, overflow, causeCount}
-use Rattle.accumulator.specs.Count.{counted, up, down}
+use Rattle.accumulator.proofs.Landing.{up-cause, down-cause}
 use Rattle.counter.specs.declared.desk.Desk.{Desk}
 use Rattle.counter.specs.declared.desk.Posted.{Posted}
 use Rattle.counter.specs.declared.desk.Outcome.the-variants.{Waits}
@@ -25,16 +24,16 @@ use Rattle.counter.specs.declared.state.Count.{Count}
 use Rattle.counter.specs.declared.state.Count.the-variants.{None, Up, Down}
 use Rattle.counter.specs.Desk.{first, second, waits, posted, post}
 use Rattle.counter.specs.Parts.{UIL, withAcc, withFlags, withLevels, flag, upOnly, mode}
-use Rattle.counter.specs.Interrupts.{enabled, interrupt, withOutputs, raise}
-use Rattle.counter.specs.Sample.{upOf, downOf, sampledAs, countedBy, resets, count, sampled, sample}
+use Rattle.counter.specs.Interrupts.{enabled, interrupt, raise}
+use Rattle.counter.specs.Sample.{upOf, downOf, countedBy, resets, count, sampled, sample}
 use Rattle.counter.specs.WellFormed.{Good}
-use Rattle.counter.specs.Rows.{among, loses, raiseAll, lostIn, sampleAll, Along, Raises, NotDown, NotUp, Between}
+use Rattle.counter.specs.Rows.{among, loses, lostIn, sampleAll, Along, Raises, NotDown, NotUp, Between}
 use Rattle.counter.proofs.Flags.{upFlags-uil, downFlags-uil}
-use Rattle.counter.proofs.Queue.{IsCause, Queue, WellDesk, queue-full, well-post}
+use Rattle.counter.proofs.Queue.{IsCause, Queue, WellDesk, queue-full, queue-differ, well-post}
 use Rattle.counter.proofs.Changes.{good-well}
 use Rattle.counter.proofs.Interrupting.{desk}
 use Rattle.counter.proofs.Samples.{enabled-cause}
-use Rattle.counter.proofs.Merging.{raise-uil, raise-all-uil}
+use Rattle.counter.proofs.Merging.{raise-uil}
 
 -- ---- the desk
 
@@ -44,6 +43,7 @@ pub record Two (a b : ℕ) (d : Desk) : Type 0 where
   pub first-of : among a b (first d) ≡ true
   pub second-of : among a b (second d) ≡ true
 
+-- so is that of a well-formed state with such waiting causes
 pub good-two : (a b : ℕ) (c : Counter) → Good c → among a b (first (c .desk)) ≡ true → among a b (second (c .desk)) ≡ true → Two a b (c .desk)
 good-two a b c good f s = record { well = desk c (good-well c good); first-of = f; second-of = s }
 
@@ -96,8 +96,8 @@ module _ (a b : ℕ) where
         full f =
             let x : eqb (first d) 0 ≡ false = queue-full (first d) (second d) (d .queued) f q .0 in
             let y : eqb (second d) 0 ≡ false = queue-full (first d) (second d) (d .queued) f q .1 in
-            let apart : first d ≡ second d → ⊥ = λ e. false≢true (sym (rw (y, eq-eqb (first d) (second d) e)) ∙ q .differ) in
-            meets (first d) (second d) cause apart (which (first d) x (t .first-of)) (which (second d) y (t .second-of)) (which cause some one)
+            let differ : first d ≡ second d → ⊥ = queue-differ (first d) (second d) (d .queued) y q in
+            meets (first d) (second d) cause differ (which (first d) x (t .first-of)) (which (second d) y (t .second-of)) (which cause some one)
 
         go : (k : Bool) → ltb (d .queued) 2 ≡ k → (not (eqb (d .running) 0) && not k && not (waits cause (first d) (second d))) ≡ false
         go true e = rw (and-false (not (eqb (d .running) 0)))
@@ -169,34 +169,27 @@ module _ (a b : ℕ) where
 -- ---- the causes that counts raise
 
 module _ (new : ℕ) (c : Counter) where
-  -- the cause of a sample is that of its count, if there is one
-  by-count : (P : ℕ → Type 0) → P 0 → (count new c ≡ Up → P (upOf c .cause)) → (count new c ≡ Down → P (downOf c .cause)) → P (sampled new c .cause)
+  abbrev s : Settings
+  s = c .active
+
+  -- the cause of a sample is none, or that of its count: a preset's, or a limit's, and that only from the limit on
+  by-count : (P : ℕ → Type 0) → P 0
+      → (count new c ≡ Up → P highPreset × (leZ (s .ovf) (c .acc) ≡ true → P overflow))
+      → (count new c ≡ Down → P lowPreset × (leZ (c .acc) (s .unf) ≡ true → P underflow))
+      → P (sampled new c .cause)
   unfolding sampled countedBy
-  by-count P none up down =
+  by-count P none ups downs =
       cond-cases (λ (r : Sampled). P (r .cause)) (resets new c) _ _ (λ e. none) (λ e. go (count new c) refl)
     where
+      one-of : (a b : Bool) (limit preset : ℕ) → P preset × (a ≡ true → P limit) → P (cond a limit (cond b preset 0))
+      one-of a b limit preset h = cond-cases P a limit _ (h .1) (λ e. cond-cases P b preset 0 (λ e. h .0) (λ e. none))
+
       go : (way : Count) → count new c ≡ way → P (countedBy way c .cause)
       go None e = none
-      go Up e = up e
-      go Down e = down e
-
-Cause : (ℕ → Type 0) → Counted → Type 0
-Cause P r = P (r .cause)
-
--- a count up raises cause 2 or 4, and 4 only from OVF
-up-cause : (P : ℕ → Type 0) (single : Bool) (acc hip ovf unf : ℤ) → P 0 → P highPreset → (leZ ovf acc ≡ true → P overflow) → P (up single acc hip ovf unf .cause)
-unfolding up Cause
-up-cause P single acc hip ovf unf none preset limit =
-    cond-cases (Cause P) (leZ ovf acc) _ _
-    (λ e. cond-cases (Cause P) single (counted (pos 0) overflow) (counted unf overflow) (λ s. limit e) (λ s. limit e))
-    (λ e. cond-cases (Cause P) (eqZ (acc +ℤ pos 1) hip) _ _
-    (λ l. cond-cases (Cause P) single (counted (pos 0) highPreset) (counted (acc +ℤ pos 1) highPreset) (λ s. preset) (λ s. preset)) (λ l. none))
-
--- a count down raises cause 1 or 3, and 3 only from UNF
-down-cause : (P : ℕ → Type 0) (acc lop ovf unf : ℤ) → P 0 → P lowPreset → (leZ acc unf ≡ true → P underflow) → P (down acc lop ovf unf .cause)
-unfolding down Cause
-down-cause P acc lop ovf unf none preset limit =
-    cond-cases (Cause P) (leZ acc unf) _ _ (λ e. limit e) (λ e. cond-cases (Cause P) (eqZ (acc -ℤ pos 1) lop) _ _ (λ l. preset) (λ l. none))
+      go Up e =
+          rw (up-cause (upOnly (mode c)) (c .acc) (s .hip) (s .ovf) (s .unf)) (one-of (leZ (s .ovf) (c .acc)) (eqZ (c .acc +ℤ pos 1) (s .hip)) overflow highPreset (ups e))
+      go Down e =
+          rw (down-cause (c .acc) (s .lop) (s .ovf) (s .unf)) (one-of (leZ (c .acc) (s .unf)) (eqZ (c .acc -ℤ pos 1) (s .lop)) underflow lowPreset (downs e))
 
 -- ---- counting one way, and between the limits
 
@@ -206,30 +199,16 @@ along-map f [] c each = tt
 along-map f (new ∷ row) c each = (f new c (each .0), along-map f row (sample new c) (each .1))
 
 module _ (new : ℕ) (c : Counter) where
-  abbrev s : Settings
-  s = c .active
-
-  Among : ℕ → ℕ → ℕ → Type 0
-  Among a b n = among a b n ≡ true
-
   up-raises : NotDown new c → Raises highPreset overflow new c
-  unfolding Among
-  up-raises h =
-      by-count new c (Among highPreset overflow) refl
-      (λ e. up-cause (Among highPreset overflow) (upOnly (mode c)) (c .acc) (s .hip) (s .ovf) (s .unf) refl refl (λ l. refl)) (λ e. absurd (h e))
+  up-raises h = by-count new c (λ (n : ℕ). among highPreset overflow n ≡ true) refl (λ e. (refl, λ l. refl)) (λ e. absurd (h e))
 
   down-raises : NotUp new c → Raises lowPreset underflow new c
-  unfolding Among
-  down-raises h =
-      by-count new c (Among lowPreset underflow) refl (λ e. absurd (h e))
-      (λ e. down-cause (Among lowPreset underflow) (c .acc) (s .lop) (s .ovf) (s .unf) refl refl (λ l. refl))
+  down-raises h = by-count new c (λ (n : ℕ). among lowPreset underflow n ≡ true) refl (λ e. absurd (h e)) (λ e. (refl, λ l. refl))
 
   between-raises : Between new c → Raises lowPreset highPreset new c
-  unfolding Among
   between-raises h =
-      by-count new c (Among lowPreset highPreset) refl
-      (λ e. up-cause (Among lowPreset highPreset) (upOnly (mode c)) (c .acc) (s .hip) (s .ovf) (s .unf) refl refl (λ l. absurd (true≢false (sym l ∙ h .up e))))
-      (λ e. down-cause (Among lowPreset highPreset) (c .acc) (s .lop) (s .ovf) (s .unf) refl refl (λ l. absurd (true≢false (sym l ∙ h .down e))))
+      by-count new c (λ (n : ℕ). among lowPreset highPreset n ≡ true) refl (λ e. (refl, λ l. absurd (true≢false (sym l ∙ h .up e))))
+      (λ e. (refl, λ l. absurd (true≢false (sym l ∙ h .down e))))
 
 module _ (row : List ℕ) (c : Counter) where
   pub up-keeps : Two highPreset overflow (c .desk) → Along NotDown row c → flag (sampleAll row c) UIL ≡ flag c UIL
