@@ -72,6 +72,17 @@ module _ (a b : ℕ) (c : Counter) (good : Good c) (f : among a b (first (c .des
 
 -- ---- of which are instances: counting in one direction, and rocking over both presets
 
+-- each raises two causes only
+module _ (new : ℕ) (c : Counter) where
+  pub up-raises : NotDown new c → Raises highPreset overflow new c
+  up-raises = counter.Rows.up-raises new c
+
+  pub down-raises : NotUp new c → Raises lowPreset underflow new c
+  down-raises = counter.Rows.down-raises new c
+
+  pub between-raises : Between new c → Raises lowPreset highPreset new c
+  between-raises = counter.Rows.between-raises new c
+
 module _ (row : List ℕ) (c : Counter) (good : Good c) where
   -- no sample counts down, and none waits but causes 2 and 4
   pub counting-up : among highPreset overflow (first (c .desk)) ≡ true → among highPreset overflow (second (c .desk)) ≡ true

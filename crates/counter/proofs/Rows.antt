@@ -199,13 +199,13 @@ along-map f [] c each = tt
 along-map f (new ∷ row) c each = (f new c (each .0), along-map f row (sample new c) (each .1))
 
 module _ (new : ℕ) (c : Counter) where
-  up-raises : NotDown new c → Raises highPreset overflow new c
+  pub up-raises : NotDown new c → Raises highPreset overflow new c
   up-raises h = by-count new c (λ (n : ℕ). among highPreset overflow n ≡ true) refl (λ e. (refl, λ l. refl)) (λ e. absurd (h e))
 
-  down-raises : NotUp new c → Raises lowPreset underflow new c
+  pub down-raises : NotUp new c → Raises lowPreset underflow new c
   down-raises h = by-count new c (λ (n : ℕ). among lowPreset underflow n ≡ true) refl (λ e. absurd (h e)) (λ e. (refl, λ l. refl))
 
-  between-raises : Between new c → Raises lowPreset highPreset new c
+  pub between-raises : Between new c → Raises lowPreset highPreset new c
   between-raises h =
       by-count new c (λ (n : ℕ). among lowPreset highPreset n ≡ true) refl (λ e. (refl, λ l. absurd (true≢false (sym l ∙ h .up e))))
       (λ e. (refl, λ l. absurd (true≢false (sym l ∙ h .down e))))
