@@ -12,5 +12,6 @@ pub mod Built
 pub mod Mending
 pub mod Claim
 pub mod Theorem
+pub mod EventsRun
 pub mod Scan
 pub mod Iterations

@@ -5,4 +5,5 @@ pub mod Events
 pub mod Counts
 pub mod Replay
 pub mod Mend
+pub mod EventsRun
 pub mod Claim
