@@ -49,6 +49,7 @@ use Rattle.image.specs.Verdicts.{replayVerdict, ValidTrace}
 use Rattle.image_replay.specs.Replays.{TrueTable, finalState, replayImage, replayLast}
 use Rattle.image_mend.specs.Mends.{mendAnswer, mendImage, mendOf}
 use Rattle.image_mend.specs.Demand3.{Edit, Demand3}
+use Rattle.image_mend.specs.Ran.{Ran}
 use Rattle.hsc.specs.Version.{version}
 use Rattle.hsc.specs.Calls.{checkAnswer, stepAnswer, stepAfter, readAnswer, readAfter, replayStatus, mendStatus, mendSpan}
 use Rattle.hsc.specs.Calls.{compareStatus, compareCount, restNumber, restPart, drawStatus}
@@ -346,7 +347,8 @@ step-over κs s s′ moving moving′ events events′ at at′ = (refl, refl)
 
 -- ---- Demand 3: a mended night is the replayed night
 
--- Mending is proved to meet its contract, whose third part is demand 3: any edit is answered and left as it says.
+-- Mending is proved to meet its contract, whose third part is demand 3: any edit is answered and left as it says. Its fourth is what holds of the
+-- events run (`Running`).
 pub mend-met : {M : Type 1} → mending.mend.Statement.statement M
 mend-met = mending.mend.Met.met
 
@@ -355,7 +357,8 @@ pub mend-contract : (κs : _) (image image′ patch patch′ : RefT (List ℕ)) 
     × (mending.mend.Reads.Learnt κs (image, (first, (patch, tt))) r (image′, (first′, (patch′, tt)))
     ≡ ((mendOf r ≡ mendAnswer (now image) first (now patch))
     × ((now image′ ≡ mendImage (now image) first (now patch))
-    × ((n : ℕ) → Edit (now image) first n (now patch) → Demand3 (now image) first n (now patch) (mendOf r) (now image′)))))
+    × (((n : ℕ) → Edit (now image) first n (now patch) → Demand3 (now image) first n (now patch) (mendOf r) (now image′))
+    × ((s : Span) → mendOf r ≡ given s → Ran (now image) first (now patch) (s .ran))))))
 mend-contract κs image image′ patch patch′ first first′ r = (refl, refl)
 
 -- what answers and leaves as mending's definitions say meets demand 3

@@ -7,3 +7,4 @@ pub mod Resetting
 pub mod Receiving
 pub mod Masking
 pub mod Merging
+pub mod Running

@@ -6,10 +6,8 @@ use native.Mathlib.Nat.{zero-mul}
 use native.Mathlib.Omega.{arith}
 use lib.ListN.{take, drop}
 use Rattle.word.specs.Part.{Bytes}
-use Rattle.counter.specs.Events.{step}
-use Rattle.snapshot.specs.declared.event.Event.{Event}
 use Rattle.snapshot.specs.Widths.{eventSize}
-use Rattle.snapshot.specs.EventBytes.{eventOf, legalEvent, stepEvent}
+use Rattle.snapshot.specs.EventBytes.{eventOf, legalEvent}
 use Rattle.refusal.specs.Refusals.{given}
 use Rattle.replay.specs.System.{System, Alike}
 use Rattle.replay.specs.Image.{Shape, event, snapshot, snapshotPlace}
@@ -22,7 +20,7 @@ use Rattle.image.specs.Editions.{system}
 use Rattle.image.specs.Header.{headerSize, eventCount, snapshotOffset, shapeOf, editionOf, systemOf}
 use Rattle.image.specs.Rows.{eventArea}
 use Rattle.image.specs.Verdicts.{ValidTrace}
-use Rattle.image.proofs.Laws.{laws}
+use Rattle.image.proofs.Laws.{laws, taken-alike}
 use Rattle.image.proofs.Headers.{shape-same, edition-same}
 use Rattle.image.proofs.Accepted.{trace-passed, trace-replayable}
 use Rattle.image.proofs.Rows.{area-length, area-count, area-part}
@@ -37,12 +35,7 @@ use Rattle.compare.proofs.Bounds.{compare-given}
 
 -- ---- each edition
 
--- an event is taken by its kind, sub and value alone
-taken-alike : (ed : Edition) (d e : List ℕ) → eventOf d ≡ eventOf e → Alike (system ed) d e
-unfolding stepEvent
-taken-alike Base d e same c = ap (λ (x : Event). step (x .kind) (x .sub) (x .value) c) same
-
--- and the start does not go by the bytes of snapshot 0
+-- the start does not go by the bytes of snapshot 0
 one-start : (ed : Edition) (b c : List ℕ) → system ed .start b ≡ system ed .start c
 one-start Base b c = refl
 

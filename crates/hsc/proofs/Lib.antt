@@ -4,5 +4,5 @@ pub mod Drawn
 mod Widened
 mod Whole
 mod Rows
-mod Pair
+mod Written
 mod Done

@@ -76,9 +76,9 @@ replayStatus image = statusOf (replayVerdict image)
 abbrev pub mendStatus : List ℕ → ℕ → List ℕ → ℕ
 mendStatus image first patch = statusOf (mendAnswer image first patch)
 
--- s + 1 and the stop
+-- s + 1, the stop and the events run
 abbrev pub mendSpan : List ℕ → ℕ → List ℕ → List ℕ → List ℕ
-mendSpan image first patch span = after (mendAnswer image first patch) span (λ (s : Span). s .first ∷ s .stop ∷ [])
+mendSpan image first patch span = after (mendAnswer image first patch) span (λ (s : Span). s .first ∷ s .stop ∷ s .ran ∷ [])
 
 -- ---- comparing two traces (document 02, request 1): the row after is `compareRow`
 

@@ -7,5 +7,5 @@ ghost use Rattle.hsc.specs.Version.{version};
 pub extern "C" fn hsc_version() -> u32
     ensures { λ r. ⌜ r ≡ version ⌝ }
 {
-    800
+    900
 }

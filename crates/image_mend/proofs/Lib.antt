@@ -2,3 +2,4 @@
 pub mod Bounds
 pub mod Edits
 pub mod Theorem
+pub mod Ran

@@ -1,3 +1,4 @@
--- Document 01's mending of an image, and demand 3. Read in this order.
+-- Document 01's mending of an image, demand 3, and how much it ran. Read in this order.
 pub mod Mends
 pub mod Demand3
+pub mod Ran

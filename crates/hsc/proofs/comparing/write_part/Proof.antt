@@ -1,6 +1,7 @@
 -- `hsc::comparing::write_part` meets its contract: two writes cover two numbers.
 use borrow.Author.Needs.{needs}
-use Rattle.hsc.proofs.Pair.{both-set}
+use mathlib.Core.List.{[], _∷_}
+use Rattle.hsc.proofs.Written.{written, all-written}
 use Rattle.hsc.proofs.comparing.write_part.Statement.{statement}
 use Rattle.hsc.proofs.comparing.write_part.Tie as tie
 
@@ -14,7 +15,8 @@ same-length : tie.Need-same-length
 same-length c = search needs
 
 returns : tie.Need-returns
-returns c = both-set (c .args .part .now) _ _ (c .pre)
+unfolding written
+returns c = all-written (_ ∷ _ ∷ []) (c .args .part .now) (c .pre)
 
 pub write-part-spec : {M : Type 1} → statement M
 write-part-spec = tie.close (tie.spec slice-write-part slice-write-part-2 same-length returns)

@@ -1,4 +1,4 @@
--- `hsc::mending::hsc_mend` meets its contract: a refusal's status is its number and place, and a mend's two numbers fit 32 bits.
+-- `hsc::mending::hsc_mend` meets its contract: a refusal's status is its number and place, and a mend's three numbers fit 32 bits.
 use borrow.Author.Needs.{needs}
 use mathlib.Core.Path.{_≡_, sym, ap, subst, _∙_}
 use mathlib.Core.List.{List, [], _∷_}
@@ -12,8 +12,8 @@ use Rattle.image_mend.proofs.Bounds.{mend-placed, mend-numbers}
 use Rattle.hsc.proofs.mending.hsc_mend.Statement.{statement}
 use Rattle.hsc.proofs.mending.hsc_mend.Tie as tie
 
-abbrev pair : Span → List ℕ
-pair s = s .first ∷ s .stop ∷ []
+abbrev numbers : Span → List ℕ
+numbers s = s .first ∷ s .stop ∷ s .ran ∷ []
 
 -- the answer that the definitions give
 abbrev answer : tie.After-mend → Answer Span
@@ -46,6 +46,9 @@ cast-write-span c = omega (arith, mend-numbers _ _ _ (given-answered (c .before 
 cast-write-span-2 : tie.Need-cast-write-span-2
 cast-write-span-2 c = omega (arith, mend-numbers _ _ _ (given-answered (c .before .before .before)) .stop)
 
+cast-write-span-3 : tie.Need-cast-write-span-3
+cast-write-span-3 c = omega (arith, mend-numbers _ _ _ (given-answered (c .before .before .before .before)) .ran)
+
 write-span-requires : tie.Need-write-span-requires
 write-span-requires c κs = search needs
 
@@ -58,7 +61,7 @@ returns c =
     let asked = matched .before .before .before .before .before in
     let old = now (asked .before .before .before .before .args .span) in (
       c .status-of .ensures ∙ ap statusOf (refused-answered matched),
-      (asked .mend .ensures .1 .0, ap (λ (a : Answer Span). after a old pair) (refused-answered matched)),
+      (asked .mend .ensures .1 .0, ap (λ (a : Answer Span). after a old numbers) (refused-answered matched)),
     )
 
 same-length-2 : tie.Need-same-length-2
@@ -66,11 +69,11 @@ same-length-2 c = search needs
 
 returns-2 : tie.Need-returns-2
 returns-2 c =
-    let matched = c .before .before .before .before in
+    let matched = c .before .before .before .before .before in
     let asked = matched .before .before .before .before .before in
     let old = now (asked .before .before .before .before .args .span) in (
       ap statusOf (given-answered matched),
-      (asked .mend .ensures .1 .0, c .write-span .ensures ∙ ap (λ (a : Answer Span). after a old pair) (given-answered matched)),
+      (asked .mend .ensures .1 .0, c .write-span .ensures ∙ ap (λ (a : Answer Span). after a old numbers) (given-answered matched)),
     )
 
 pub hsc-mend-spec : {M : Type 1} → statement M
@@ -83,6 +86,7 @@ hsc-mend-spec =
     enum-known-s
     cast-write-span
     cast-write-span-2
+    cast-write-span-3
     write-span-requires
     same-length
     returns

@@ -1,6 +1,7 @@
--- `hsc::mending::write_span` meets its contract: two writes cover two numbers.
+-- `hsc::mending::write_span` meets its contract: three writes cover three numbers.
 use borrow.Author.Needs.{needs}
-use Rattle.hsc.proofs.Pair.{both-set}
+use mathlib.Core.List.{[], _∷_}
+use Rattle.hsc.proofs.Written.{written, all-written}
 use Rattle.hsc.proofs.mending.write_span.Statement.{statement}
 use Rattle.hsc.proofs.mending.write_span.Tie as tie
 
@@ -10,11 +11,15 @@ slice-write-span c = search needs
 slice-write-span-2 : tie.Need-slice-write-span-2
 slice-write-span-2 c = search needs
 
+slice-write-span-3 : tie.Need-slice-write-span-3
+slice-write-span-3 c = search needs
+
 same-length : tie.Need-same-length
 same-length c = search needs
 
 returns : tie.Need-returns
-returns c = both-set (c .args .span .now) _ _ (c .pre)
+unfolding written
+returns c = all-written (_ ∷ _ ∷ _ ∷ []) (c .args .span .now) (c .pre)
 
 pub write-span-spec : {M : Type 1} → statement M
-write-span-spec = tie.close (tie.spec slice-write-span slice-write-span-2 same-length returns)
+write-span-spec = tie.close (tie.spec slice-write-span slice-write-span-2 slice-write-span-3 same-length returns)
