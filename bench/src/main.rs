@@ -34,7 +34,7 @@ fn images(spacing: usize) {
     let mut mend = |name, prepare: &dyn Fn(&mut [u8]), first: usize, patch: &dyn Fn() -> Vec<u8>, stop| {
         in_turn(name, |side| {
             prepare(&mut image);
-            let (patch, mut span) = (patch(), [0; 2]);
+            let (patch, mut span) = (patch(), [0; 3]);
             let (seconds, status) = timed(|| SIDES[side].mend(&mut image, first as u64, &patch, &mut span));
             assert_eq!((status, span[1] as usize), (0, stop), "{name}: the stop");
             (seconds, span)

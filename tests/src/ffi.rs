@@ -74,7 +74,7 @@ impl Subject for Archive {
         unsafe { hsc_replay(image.as_mut_ptr(), image.len(), last.as_mut_ptr()) }
     }
 
-    fn mend(&self, image: &mut [u8], first: u64, patch: &[u8], span: &mut [u32; 2]) -> u64 {
+    fn mend(&self, image: &mut [u8], first: u64, patch: &[u8], span: &mut [u32; 3]) -> u64 {
         unsafe {
             hsc_mend(image.as_mut_ptr(), image.len(), first, patch.as_ptr(), patch.len(), span.as_mut_ptr())
         }

@@ -7,7 +7,7 @@ pub trait Subject {
     fn step(&self, snapshot: &mut [u8], event: &[u8]) -> u64;
     fn read(&self, snapshot: &[u8], fields: &mut [i32; 32]) -> u64;
     fn replay(&self, image: &mut [u8], last: &mut [u8; 68]) -> u64;
-    fn mend(&self, image: &mut [u8], first: u64, patch: &[u8], span: &mut [u32; 2]) -> u64;
+    fn mend(&self, image: &mut [u8], first: u64, patch: &[u8], span: &mut [u32; 3]) -> u64;
     fn compare(&self, first: &[u8], second: &[u8], row: &mut [u32], count: &mut u32) -> u64;
     fn rest(&self, first: &[u8], second: &[u8], part: &mut [u64; 2]) -> u32;
     fn draw(&self, snapshot: &mut [u8], events: &[u8], row: &mut [i32]) -> u64;
@@ -42,7 +42,7 @@ impl Subject for Model {
         model::replay(image, last)
     }
 
-    fn mend(&self, image: &mut [u8], first: u64, patch: &[u8], span: &mut [u32; 2]) -> u64 {
+    fn mend(&self, image: &mut [u8], first: u64, patch: &[u8], span: &mut [u32; 3]) -> u64 {
         model::mend(image, first, patch, span)
     }
 

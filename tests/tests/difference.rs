@@ -216,7 +216,11 @@ fn mending_sees_a_difference_in_any_byte() {
                     let bytes = bent(&good, start, |_, at| (at == byte) == alone);
                     let answer = answer(subject, Case::mend(&bytes, first as u64, &[]));
                     assert_eq!(answer.status, 0);
-                    assert_eq!(answer.results.span.map(|number| number as usize), [start + 1, snapshots]);
+                    let ran = (snapshots - 1 - start) * spacing;
+                    assert_eq!(
+                        answer.results.span.map(|number| number as usize),
+                        [start + 1, snapshots, ran]
+                    );
                     assert!(answer.buffer() == good);
                 }
             }
@@ -233,7 +237,7 @@ fn mending_stops_at_the_one_snapshot_that_agrees() {
         for stop in 1..Parts::of(&good).snapshots {
             let bytes = bent(&good, 0, |index, at| index != stop && at == LAST);
             let answer = answer(subject, Case::mend(&bytes, 0, &[]));
-            assert_eq!((answer.status, answer.results.span), (0, [1, stop as u32]));
+            assert_eq!((answer.status, answer.results.span), (0, [1, stop as u32, stop as u32]));
             assert!(answer.buffer() == bent(&good, stop, |_, at| at == LAST));
         }
     });
@@ -256,13 +260,15 @@ fn mending_stops_where_there_is_no_difference() {
         let stored = |index| &bytes[parts.snapshot(index)..parts.snapshot(index + 1)];
         let mut state = stored(start).to_vec();
         let mut row = vec![0; parts.spacing];
+        let mut ran = 0;
         let stop = (start + 1..parts.snapshots).find(|&index| {
             let place = index * parts.spacing;
             let events = parts.event(place - parts.spacing)..parts.event(place);
+            ran += parts.spacing;
             assert_eq!(subject.draw(&mut state, &mended.buffer()[events], &mut row), 0);
             place >= first + count && subject.first_difference(stored(index), &state) == 68
         });
-        let span = [start + 1, stop.unwrap_or(parts.snapshots)];
+        let span = [start + 1, stop.unwrap_or(parts.snapshots), ran];
         assert_eq!(mended.results.span.map(|number| number as usize), span);
     });
 }

@@ -189,16 +189,16 @@ fn mends_by_hand() {
     other_stamp[8..].fill(0xff);
     // Events, spacing, first, patch, then the span.
     let rows = [
-        (4, 1, 1, vec![acc(9)], [2, 3]),
-        (4, 1, 1, vec![acc(2)], [2, 2]),
-        (4, 1, 1, vec![other_stamp], [2, 2]),
-        (4, 1, 3, vec![acc(9)], [4, 5]),
-        (4, 2, 0, vec![acc(9)], [1, 1]),
-        (4, 1, 0, vec![acc(1), acc(7), acc(3)], [1, 3]),
-        (4, 1, 0, vec![], [1, 1]),
-        (4, 1, 4, vec![], [5, 5]),
-        (4, 3, 3, vec![acc(9)], [2, 2]),
-        (0, 1, 0, vec![], [1, 1]),
+        (4, 1, 1, vec![acc(9)], [2, 3, 2]),
+        (4, 1, 1, vec![acc(2)], [2, 2, 1]),
+        (4, 1, 1, vec![other_stamp], [2, 2, 1]),
+        (4, 1, 3, vec![acc(9)], [4, 5, 1]),
+        (4, 2, 0, vec![acc(9)], [1, 1, 2]),
+        (4, 1, 0, vec![acc(1), acc(7), acc(3)], [1, 3, 3]),
+        (4, 1, 0, vec![], [1, 1, 1]),
+        (4, 1, 4, vec![], [5, 5, 0]),
+        (4, 3, 3, vec![acc(9)], [2, 2, 0]),
+        (0, 1, 0, vec![], [1, 1, 0]),
     ];
     on_each(|subject| {
         for (events, spacing, first, patch, want) in &rows {
@@ -207,6 +207,40 @@ fn mends_by_hand() {
             let answer = Case::mend(&bytes, *first as u64, patch).answer(subject);
             assert_eq!((answer.status, answer.results.span), (0, *want));
             demand3::holds(subject, &bytes, *first, patch).unwrap();
+        }
+    });
+}
+
+/// Both bounds of request 8 are reached. The same events again, stamps or not, run at most one less
+/// than n + 2K, which an empty run does with K = 1; with K past 1 it is two less.
+#[test]
+fn a_mend_runs_as_much_as_it_may() {
+    // Events, spacing, first, how many, then the events run.
+    let again = [
+        (4, 1, 0, 0, 1),
+        (4, 1, 1, 2, 2),
+        (8, 4, 3, 2, 8),
+        (12, 4, 3, 6, 12),
+        (8, 4, 4, 4, 4),
+        (9, 4, 8, 1, 0),
+    ];
+    // Events, spacing, first: a mend that no snapshot agrees with runs all.
+    let all = [(4, 1, 0), (4, 2, 1), (4, 4, 3), (8, 4, 0)];
+    on_each(|subject| {
+        for (events, spacing, first, count, ran) in again {
+            let bytes = counting(events, spacing);
+            let parts = Parts::of(&bytes);
+            let mut patch = bytes[parts.event(first)..parts.event(first + count)].to_vec();
+            for stamp in [0, 0xff] {
+                patch.as_chunks_mut::<12>().0.iter_mut().for_each(|event| event[8..].fill(stamp));
+                let span = demand3::holds(subject, &bytes, first, &patch).unwrap();
+                assert_eq!((span[2] as usize, ran < count + 2 * spacing), (ran, true));
+            }
+        }
+        for (events, spacing, first) in all {
+            let bytes = counting(events, spacing);
+            let span = demand3::holds(subject, &bytes, first, &event(2, 5, 77)).unwrap();
+            assert_eq!(span[2], events as u32);
         }
     });
 }
@@ -220,14 +254,14 @@ fn mend_of_an_untrue_table_goes_by_its_bytes() {
         let mut bytes = good.clone();
         bytes[parts.snapshot(1) + 64] = 0xff;
         let answer = Case::mend(&bytes, 0, &[]).answer(subject);
-        assert_eq!((answer.status, answer.results.span), (0, [1, 2]));
+        assert_eq!((answer.status, answer.results.span), (0, [1, 2, 2]));
         assert!(answer.buffer() == good);
         // A start that is not fresh is taken as it stands and stays.
         let mut bytes = good.clone();
         let start = encode(&Counter { levels: 5, ..Counter::fresh() });
         bytes[parts.snapshot(0)..][..68].copy_from_slice(&start);
         let answer = Case::mend(&bytes, 0, &[]).answer(subject);
-        assert_eq!((answer.status, answer.results.span), (0, [1, 5]));
+        assert_eq!((answer.status, answer.results.span), (0, [1, 5, 4]));
         for j in 0..5 {
             let want = Counter { levels: 5, acc: j as i32, ..Counter::fresh() };
             assert!(answer.buffer()[parts.snapshot(j)..][..68] == encode(&want));

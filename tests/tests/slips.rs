@@ -4,7 +4,7 @@ use std::cell::Cell;
 
 use hsc_tests::harness::{
     self,
-    slip::{Reading, Slip},
+    slip::{Reading, Running, Slip},
 };
 
 #[test]
@@ -20,13 +20,14 @@ fn every_slip_is_caught() {
 /// The wrong mends are caught by demand 3 alone, without the model's answers.
 #[test]
 fn demand_3_alone_catches_wrong_mends() {
-    for slip in [
+    let wrong = [
         Slip::MendTouchesNothing,
         Slip::MendNods(false.into()),
         Slip::MendStopsInRun,
         Slip::MendNamesEnd,
         Slip::StampLeftOut,
-    ] {
+    ];
+    for slip in wrong.into_iter().chain(Running::ALL.map(Slip::Run)) {
         let caught = harness::run_demand_3(&slip, 1, 0..20_000);
         assert!(caught.is_err(), "{slip:?} passes");
     }

@@ -127,7 +127,7 @@ pub fn valid(rng: &mut Rng) -> (Vec<u8>, Table) {
         Table::Stale => {}
         Table::OtherStart => {
             bytes[table..table + snapshot::SIZE].copy_from_slice(&snapshot::encode(&state::state(rng)));
-            model::mend(&mut bytes, 0, &[], &mut [0; 2]);
+            model::mend(&mut bytes, 0, &[], &mut [0; 3]);
         }
         Table::States => replace_some(rng, &mut bytes[table..], state::snapshot),
         Table::Noise => replace_some(rng, &mut bytes[table..], state::noise),

@@ -1,6 +1,8 @@
-//! Demand 3 on the subject alone: mending a true table equals replaying the changed image.
+//! Demand 3 on the subject alone: mending a true table equals replaying the changed image, and runs
+//! as much as it says.
 
 use super::case::{Answer, Case};
+use super::ran;
 use crate::generate::image::Parts;
 use crate::subject::Subject;
 
@@ -17,8 +19,8 @@ fn answer(subject: &dyn Subject, case: Case) -> Result<Answer, String> {
 }
 
 /// Checks the claim for a valid image, which is given a true table first, and a patch of legal
-/// events within it. Says whether the mend stopped inside the table.
-pub fn holds(subject: &dyn Subject, image: &[u8], first: usize, patch: &[u8]) -> Result<bool, String> {
+/// events within it. Gives the mend's three numbers.
+pub fn holds(subject: &dyn Subject, image: &[u8], first: usize, patch: &[u8]) -> Result<[u32; 3], String> {
     let replayed = answer(subject, Case::replay(image))?;
     let old = replayed.buffer();
     let parts = Parts::of(old);
@@ -49,5 +51,8 @@ pub fn holds(subject: &dyn Subject, image: &[u8], first: usize, patch: &[u8]) ->
         .unwrap_or(parts.snapshots);
     check(span[0] as usize == start + 1, "the first number is not s + 1")?;
     check(span[1] as usize == stop, "the stop is not the least agreement")?;
-    Ok(stop < parts.snapshots)
+    ran::holds(parts, first, span)?;
+    let same = ran::again(&old[parts.event(first)..parts.event(end)], patch).is_some();
+    check(!same || ran::spared(parts, end - first, span) > 0, "the same events again run n + 2K or more")?;
+    Ok(span)
 }

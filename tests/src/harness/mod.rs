@@ -3,6 +3,7 @@
 pub mod alone;
 pub mod case;
 pub mod demand3;
+pub mod ran;
 pub mod receiver;
 pub mod slip;
 pub mod tally;
@@ -145,25 +146,31 @@ fn replay(subject: &dyn Subject, rng: &mut Rng, tally: &mut Tally) -> Result<(),
 
 fn mend(subject: &dyn Subject, rng: &mut Rng, tally: &mut Tally) -> Result<(), String> {
     let (mut bytes, table) = image::valid(rng);
-    let parts = image::Parts::of(&bytes);
-    let (first, patch) = patch::any(rng, &bytes, parts);
+    let (first, patch) = patch::any(rng, &bytes, image::Parts::of(&bytes));
     if rng.once_in(8) {
         image::damage(rng, &mut bytes);
     }
     let case = Case::mend(&bytes, first, &patch);
     let answer = compare(subject, &case, tally)?;
     if answer.status == 0 {
-        tally.mended(table, answer.results.span[1], parts.snapshots);
+        // Another K may be as good.
+        let parts = image::Parts::of(&bytes);
+        ran::holds(parts, first as usize, answer.results.span)?;
+        tally.mended(table, parts, answer.results.span);
     }
     Ok(())
 }
 
 fn demand_3(subject: &dyn Subject, rng: &mut Rng, tally: &mut Tally) -> Result<(), String> {
     let bytes = image::with_true_table(rng);
-    let run = patch::run(rng, image::Parts::of(&bytes));
-    let patch = patch::legal(rng, &bytes, run);
-    let inside = demand3::holds(subject, &bytes, run.0, patch.as_flattened())?;
-    tally.demand_3(inside);
+    let parts = image::Parts::of(&bytes);
+    let (first, count) = patch::run(rng, parts);
+    let patch = patch::legal(rng, &bytes, (first, count)).into_flattened();
+    let span = demand3::holds(subject, &bytes, first, &patch)?;
+    tally.demand_3(parts, span);
+    if let Some(stamps) = ran::again(&bytes[parts.event(first)..parts.event(first + count)], &patch) {
+        tally.again(parts, ran::spared(parts, count, span), stamps);
+    }
     Ok(())
 }
 

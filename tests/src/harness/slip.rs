@@ -4,6 +4,7 @@
 mod load;
 mod post;
 mod reader;
+mod run;
 mod sample;
 
 use std::cell::Cell;
@@ -21,6 +22,7 @@ use post::Posting;
 use sample::Sampling;
 
 pub use reader::Reading;
+pub use run::Running;
 
 /// Where a snapshot has ACC.
 const ACC: Range<usize> = 52..56;
@@ -59,6 +61,8 @@ pub enum Slip {
     MendNamesEnd,
     /// Copies the patch without its stamps.
     StampLeftOut,
+    /// Tells the events that a mend ran by another rule.
+    Run(Running),
     /// Refuses rightly but writes its result.
     RefusalWrites,
     /// Compares the stamps too.
@@ -153,6 +157,7 @@ impl Slip {
         all.extend(Sampling::ALL.map(Slip::Sample));
         all.extend(Loading::ALL.map(Slip::Load));
         all.extend(Posting::ALL.map(Slip::Post));
+        all.extend(Running::ALL.map(Slip::Run));
         all.extend(Reading::all().into_iter().map(Slip::Read));
         all
     }
@@ -238,8 +243,9 @@ impl Subject for Slip {
         }
     }
 
-    fn mend(&self, image: &mut [u8], first: u64, patch: &[u8], span: &mut [u32; 2]) -> u64 {
+    fn mend(&self, image: &mut [u8], first: u64, patch: &[u8], span: &mut [u32; 3]) -> u64 {
         let old = image.to_vec();
+        let painted = span[2];
         let mut patch = patch.to_vec();
         let mut status = Model.mend(image, first, &patch, span);
         if status != 0 {
@@ -267,6 +273,7 @@ impl Subject for Slip {
                 image.copy_from_slice(&old);
                 status = Model.mend(image, first, &patch, span);
             }
+            Slip::Run(rule) => span[2] = rule.told(parts, first as usize, patch.len() / 12, *span, painted),
             _ => {}
         }
         status

@@ -21,7 +21,7 @@ pub struct Tally {
 }
 
 /// Each heading with the numbers that must be reached under it.
-const REQUIRED: [(&str, &[u32]); 97] = [
+const REQUIRED: [(&str, &[u32]); 102] = [
     (CHECK, &[0, 1, 9]),
     (STEP, &[0, 5, 6, 9]),
     (READ, &[0, 6, 9]),
@@ -62,7 +62,12 @@ const REQUIRED: [(&str, &[u32]); 97] = [
     (DROPPED, CAUSES),
     (STOP_INSIDE, TABLES),
     (STOP_END, TABLES),
+    (RAN, &[0, 1, 2]),
+    (RAN_ALL, TABLES),
     (DEMAND_3, &[0, 1]),
+    (AGAIN_1, &[1, 2]),
+    (AGAIN, &[2, 3]),
+    (AGAIN_STAMPS, &[0, 1]),
     (COMPARE, &[0, 5, 9, 12]),
     (UNEVEN, TRACES),
     (AT_LIMIT, TRACES),
@@ -186,7 +191,13 @@ const DROPPED: &str = "cause dropped";
 const STOP_INSIDE: &str =
     "mend stopped inside a table (0 true, 1 one wrong byte, 2 stale, 3 other start, 4 states, 5 noise)";
 const STOP_END: &str = "mend stopped at S (tables as above)";
+const RAN: &str = "mend done: ran 0 no event, 1 some, 2 all";
+const RAN_ALL: &str = "mend ran all events, one or more (tables as above)";
 const DEMAND_3: &str = "demand 3: 0 stopped inside, 1 at S";
+const AGAIN_1: &str =
+    "the same events again, table true, K 1: n + 2K less the events run, of which 1 is the least";
+const AGAIN: &str = "the same events again, table true, K more: so, of which 2 is the least, 3 for more";
+const AGAIN_STAMPS: &str = "the same events again with the least of it, K more: 0 stamps too, 1 other stamps";
 const COMPARE: &str = "compare: refusal";
 const UNEVEN: &str = "compare refused for a length not a multiple of 12: trace";
 const AT_LIMIT: &str = "compare not refused for 1048576 events: trace";
@@ -326,14 +337,31 @@ impl Tally {
         }
     }
 
-    /// Counts a mend without refusal: what the table held and where the mend stopped.
-    pub fn mended(&mut self, table: Table, stop: u32, snapshots: usize) {
-        let inside = (stop as usize) < snapshots;
+    /// Counts a mend without refusal: what the table held, where the mend stopped and how much it ran.
+    pub fn mended(&mut self, table: Table, parts: Parts, [_, stop, ran]: [u32; 3]) {
+        let inside = (stop as usize) < parts.snapshots;
         self.add(if inside { STOP_INSIDE } else { STOP_END }, table as u32);
+        let all = ran as usize == parts.events;
+        self.add(RAN, if ran == 0 { 0 } else { 1 + u32::from(all) });
+        if ran > 0 && all {
+            self.add(RAN_ALL, table as u32);
+        }
     }
 
-    pub fn demand_3(&mut self, stopped_inside: bool) {
-        self.add(DEMAND_3, (!stopped_inside).into());
+    pub fn demand_3(&mut self, parts: Parts, [_, stop, _]: [u32; 3]) {
+        self.add(DEMAND_3, (stop as usize >= parts.snapshots).into());
+    }
+
+    /// Counts a mend of a true table by the events that stand there already: how many it ran less than
+    /// n plus twice K, and whether with other stamps.
+    pub fn again(&mut self, parts: Parts, spared: usize, other_stamps: bool) {
+        match (parts.spacing, spared) {
+            (1, _) => self.add(AGAIN_1, spared as u32),
+            _ => self.add(AGAIN, spared.min(3) as u32),
+        }
+        if parts.spacing > 1 && spared == 2 {
+            self.add(AGAIN_STAMPS, other_stamps.into());
+        }
     }
 
     /// Counts what a comparison met: the lengths, and what its outcome goes by.

@@ -99,8 +99,8 @@ pub fn replay(image: &mut [u8], last: &mut snapshot::Bytes) -> u64 {
 }
 
 /// Copies the patch over the events from `first` and mends the table after them; `span`
-/// takes s + 1 and the stop. Refusals 1 to 5, 7, 8, 6.
-pub fn mend(image: &mut [u8], first: u64, patch: &[u8], span: &mut [u32; 2]) -> u64 {
+/// takes s + 1, the stop and the events run. Refusals 1 to 5, 7, 8, 6.
+pub fn mend(image: &mut [u8], first: u64, patch: &[u8], span: &mut [u32; 3]) -> u64 {
     status(trace::mend(image, first, patch).map(|answer| *span = answer))
 }
 
