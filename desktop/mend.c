@@ -54,7 +54,7 @@ static enum outcome check_table(const struct image *image)
 }
 
 /* A count stands before what it counts; a place and an index count from 0. */
-static void print_mend(const struct image *image, uint64_t first, const struct contents *patch, const uint32_t span[2])
+static void print_mend(const struct image *image, uint64_t first, const struct contents *patch, const uint32_t span[3])
 {
     size_t events = patch->size / HSC_EVENT_SIZE;
     uint32_t snapshots = span[1] - span[0];
@@ -65,12 +65,13 @@ static void print_mend(const struct image *image, uint64_t first, const struct c
         printf(", index %" PRIu32 " agreed", span[1]);
     else
         printf(", none agreed");
+    printf("; ran %" PRIu32 " of %" PRIu32 " event%s", span[2], image->events, plural(image->events));
 }
 
 static enum outcome mend(struct edit *edit, uint64_t first, const struct contents *patch, bool checked)
 {
     const struct image *image = &edit->image;
-    uint32_t span[2];
+    uint32_t span[3];
     enum outcome outcome = checked ? check_table(image) : DONE;
     uint64_t status;
 

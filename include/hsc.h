@@ -29,8 +29,8 @@
  * The version of this header: in words, and as one number, major * 10000 + minor * 100 + patch. A program compares the
  * number with hsc_version() at its start, to see that header and archive belong together.
  */
-#define HSC_VERSION "0.8.0"
-#define HSC_VERSION_NUMBER 800
+#define HSC_VERSION "0.9.0"
+#define HSC_VERSION_NUMBER 900
 
 #define HSC_HEADER_SIZE 24
 #define HSC_EVENT_SIZE 12
@@ -257,13 +257,15 @@ uint64_t hsc_replay(uint8_t *image, size_t image_len, uint8_t last[HSC_SNAPSHOT_
 /*
  * Mending: copies the n events of the patch over those from place first, and runs on from snapshot s = first/K.
  * At each snapshot j > s it compares before it writes: at or past the run's end (jK >= first + n) it stops at the
- * first j whose stored bytes agree with the state. span becomes s + 1 and the stop, S if there was none: snapshots
- * span[0] to span[1] - 1 were written. n = 0 is legal.
+ * first j whose stored bytes agree with the state. span becomes s + 1, the stop, S if there was none, and the events
+ * run: snapshots span[0] to span[1] - 1 were written. n = 0 is legal.
+ * The events run are the smaller of the stop and S - 1, less s, times K. They are never more than E; and less than
+ * n + 2K, if the old table is what replay writes and the patch holds the events already there, stamps disregarded.
  * If the old table is what replay writes, the image is then what replay makes of the changed events, byte for byte.
  * Refusals, first that applies: 1 to 5 for the image as it was, 7, 8, then 6 for snapshot s.
  */
 uint64_t hsc_mend(uint8_t *image, size_t image_len, uint64_t first, const uint8_t *patch, size_t patch_len,
-                  uint32_t span[2]);
+                  uint32_t span[3]);
 
 /*
  * Comparing two traces, each a row of events without a header: writes the places within the shorter where kind, sub or

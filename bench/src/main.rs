@@ -1,7 +1,7 @@
 //! The library and the model side by side on the same inputs, in one run: replay, mending,
-//! the image's check and single steps over a full night, the night read in chunks, also beside
-//! replay, the night drawn, two nights compared, and the first difference of two parts of bytes,
-//! also beside memcmp. It asserts results, never times.
+//! the image's check and single steps over a full night, mends by the events that they run, the
+//! night read in chunks, also beside replay, the night drawn, two nights compared, and the first
+//! difference of two parts of bytes, also beside memcmp. It asserts results, never times.
 
 mod night;
 mod parts;
@@ -18,7 +18,7 @@ use hsc_tests::model::snapshot::{encode, SIZE};
 use hsc_tests::model::trace::MAX_EVENTS;
 use hsc_tests::subject::{on_each, Model, Subject, UNDER_TEST_NAME};
 
-use timing::{compare, in_turn, timed, ROUNDS, SIDES};
+use timing::{compare, in_turn, line, timed, ROUNDS, SIDES};
 
 fn images(spacing: usize) {
     let mut image = night::image(spacing);
@@ -66,6 +66,41 @@ fn images(spacing: usize) {
     assert!(image == replayed, "the table is not true");
 
     reading::chunks(&mut image);
+}
+
+/// Mends by the events that they run, at one spacing: what the check of the image costs, and how
+/// much each event adds.
+fn price() {
+    const SPACING: usize = 64;
+    const PARTS: usize = 8;
+    let mut image = night::image(SPACING);
+    assert_eq!(Model.replay(&mut image, &mut [0; SIZE]), 0);
+    let parts = Parts::of(&image);
+    println!("K {SPACING}, mends of one event or none by the events that they run");
+
+    // The staged LPO again; the longest run goes first, so that no later event writes it.
+    let word = Cell::new(0);
+    let points: Vec<(f64, f64)> = (0..=PARTS)
+        .rev()
+        .map(|part| {
+            let ran = parts.events / PARTS * part;
+            // The first events load settings, and stay.
+            let first = (parts.events - ran).max(20);
+            let name = format!("mend, runs {ran} events");
+            let library = in_turn(&name, |side| {
+                let patch = event(2, 6, word.replace((word.get() + 1) % 65536));
+                let patch = if ran > 0 { &patch[..] } else { &[] };
+                let mut span = [0; 3];
+                let (seconds, status) =
+                    timed(|| SIDES[side].mend(&mut image, first as u64, patch, &mut span));
+                assert_eq!((status, span[2] as usize), (0, ran), "{name}: the events run");
+                (seconds, span)
+            });
+            (ran as f64, library)
+        })
+        .collect();
+    let (check, each) = line(&points);
+    println!("  library: {:.2} ms and {:.2} ns for each event, by least squares", 1e3 * check, 1e9 * each);
 }
 
 fn steps() {
@@ -157,6 +192,7 @@ fn main() {
     for spacing in [1, 64, 4096] {
         images(spacing);
     }
+    price();
     steps();
     curve();
     nights();

@@ -28,8 +28,8 @@ pub fn compare<R: PartialEq>(name: &str, mut work: impl FnMut(&dyn Subject) -> R
 
 /// Runs side 0, the library, and side 1, taking turns at going first, after one run of each that
 /// is not counted. A run gives the seconds of its timed part and a result; the results must be
-/// equal.
-pub fn in_turn<R: PartialEq>(name: &str, mut run: impl FnMut(usize) -> (f64, R)) {
+/// equal. Gives side 0's median of seconds.
+pub fn in_turn<R: PartialEq>(name: &str, mut run: impl FnMut(usize) -> (f64, R)) -> f64 {
     assert!(run(0).1 == run(1).1, "{name}: the results differ");
     let mut times = [Vec::new(), Vec::new()];
     for round in 0..ROUNDS {
@@ -49,4 +49,14 @@ pub fn in_turn<R: PartialEq>(name: &str, mut run: impl FnMut(usize) -> (f64, R))
         median(ratios),
         library.1 / other.1
     );
+    1e-3 * library.0
+}
+
+/// The line through points that is nearest to them, by least squares: where it begins, and its slope.
+pub fn line(points: &[(f64, f64)]) -> (f64, f64) {
+    let mean =
+        |number: &dyn Fn(&(f64, f64)) -> f64| points.iter().map(number).sum::<f64>() / points.len() as f64;
+    let (x, y) = (mean(&|point| point.0), mean(&|point| point.1));
+    let slope = mean(&|point| (point.0 - x) * (point.1 - y)) / mean(&|point| (point.0 - x).powi(2));
+    (y - slope * x, slope)
 }

@@ -311,7 +311,7 @@ static void stepped(uint8_t image[IMAGE], int32_t acc) {
 
 static void images(void) {
     uint8_t image[IMAGE], expected[IMAGE], last[HSC_SNAPSHOT_SIZE], patch[HSC_EVENT_SIZE];
-    uint32_t span[2] = {77, 77};
+    uint32_t span[3] = {77, 77, 77};
     image_of(image, 7);
     stepped(expected, 7);
     check("replay is done", hsc_replay(image, IMAGE, last) == 0);
@@ -323,15 +323,23 @@ static void images(void) {
     check("mending is done", hsc_mend(image, IMAGE, 0, patch, sizeof patch, span) == 0);
     check("mending leaves what replay of the changed image leaves", memcmp(image, expected, IMAGE) == 0);
     check("it compared from snapshot 1 on, and none agreed", span[0] == 1 && span[1] == SNAPSHOTS);
+    check("and ran all events, which is the most", span[2] == EVENTS);
     check("the same event again is done", hsc_mend(image, IMAGE, 0, patch, sizeof patch, span) == 0);
     check("and stops at once", span[0] == 1 && span[1] == 1 && memcmp(image, expected, IMAGE) == 0);
+    check("after one event", span[2] == 1);
+    patch[8] = expected[HSC_HEADER_SIZE + 8] = 1;
+    check("so with another stamp, which is copied", hsc_mend(image, IMAGE, 0, patch, sizeof patch, span) == 0 && span[2] == 1 &&
+                                                        memcmp(image, expected, IMAGE) == 0);
+    check("no event runs one, which is one less than n + 2K", hsc_mend(image, IMAGE, 0, patch, 0, span) == 0 && span[2] == 1);
+    check("at the end it runs none", hsc_mend(image, IMAGE, EVENTS, patch, 0, span) == 0 && span[0] == 3 && span[1] == 3 && span[2] == 0);
 
     uint64_t status = hsc_mend(image, IMAGE, 2, patch, sizeof patch, span);
     check("mending past the last event is refused by 7", hsc_number(status) == HSC_REFUSED_PATCH && hsc_place(status) == 0);
     image[HSC_HEADER_SIZE + HSC_EVENT_SIZE + 2] = expected[HSC_HEADER_SIZE + HSC_EVENT_SIZE + 2] = 1;
     status = hsc_replay(image, IMAGE, last);
     check("an illegal event is refused by 5, at its place", hsc_number(status) == HSC_REFUSED_EVENT && hsc_place(status) == 1);
-    check("and the image and the span are as they were", memcmp(image, expected, IMAGE) == 0 && span[0] == 1 && span[1] == 1);
+    check("and the image and the span are as they were",
+          memcmp(image, expected, IMAGE) == 0 && span[0] == 3 && span[1] == 3 && span[2] == 0);
 }
 
 /* A trace that is lent to be compared, for its rest or to be drawn, or another part of bytes. */
@@ -502,7 +510,7 @@ static struct trace table_of(const uint8_t image[IMAGE]) {
 
 static void differences(void) {
     uint8_t truck[IMAGE], office[IMAGE];
-    uint32_t span[2] = {KEPT, KEPT};
+    uint32_t span[3] = {KEPT, KEPT, KEPT};
     stepped(truck, 7);
     stepped(office, 7);
     const struct trace one = table_of(truck), other = table_of(office);
@@ -530,7 +538,7 @@ static void differences(void) {
         office[TABLE + (j + 1) * HSC_SNAPSHOT_SIZE - 1] = 1;
     }
     check("mending a table of which each last byte differs is done", hsc_mend(office, IMAGE, 0, truck, 0, span) == 0);
-    check("and runs to its end", span[0] == 1 && span[1] == SNAPSHOTS);
+    check("and runs to its end", span[0] == 1 && span[1] == SNAPSHOTS && span[2] == EVENTS);
     check_difference("and leaves no difference", one, other, IMAGE - TABLE);
 }
 

@@ -88,7 +88,7 @@ static void check_image(const uint8_t image[IMAGE_SIZE])
     const uint8_t patch[2 * HSC_EVENT_SIZE] = {HSC_ACC_WRITE, 0, 0, 0, 9, 0, 0, 0, 0, 0, 0, 0, HSC_KIND_COUNT};
     uint8_t bytes[IMAGE_SIZE + 1];
     uint8_t last[HSC_SNAPSHOT_SIZE + 1];
-    uint32_t span[3] = {40, 41, 42};
+    uint32_t span[4] = {40, 41, 42, 43};
 
     memcpy(bytes, image, IMAGE_SIZE);
     bytes[IMAGE_SIZE] = GUARD;
@@ -102,12 +102,13 @@ static void check_image(const uint8_t image[IMAGE_SIZE])
     expect(hsc_mend(bytes, IMAGE_SIZE, UINT64_MAX, patch, 12, span) == refusal(7, 0), "first + n does not wrap");
     expect(hsc_number(hsc_mend(bytes, IMAGE_SIZE, 0, patch, 24, span)) == HSC_REFUSED_PATCH_EVENT, "8 has its number");
     expect(hsc_place(hsc_mend(bytes, IMAGE_SIZE, 0, patch, 24, span)) == 1, "8 has its place");
-    expect(memcmp(bytes, image, IMAGE_SIZE) == 0 && span[0] == 40 && span[1] == 41, "a refused mend leaves all");
+    expect(memcmp(bytes, image, IMAGE_SIZE) == 0 && span[0] == 40 && span[1] == 41 && span[2] == 42,
+           "a refused mend leaves all");
     expect(hsc_mend(bytes, IMAGE_SIZE, 2, patch, 0, span) == HSC_DONE, "no events at the end are mended");
-    expect(span[0] == 3 && span[1] == 3, "no snapshot is after the last");
+    expect(span[0] == 3 && span[1] == 3 && span[2] == 0, "no snapshot is after the last, and no event is run");
     expect(hsc_mend(bytes, IMAGE_SIZE, 0, patch, 12, span) == HSC_DONE, "mending is done");
-    expect(span[0] == 1 && span[1] == 3, "snapshots 1 and 2 are written");
-    expect(bytes[IMAGE_SIZE] == GUARD && last[HSC_SNAPSHOT_SIZE] == GUARD && span[2] == 42, "no more is written");
+    expect(span[0] == 1 && span[1] == 3 && span[2] == 2, "snapshots 1 and 2 are written, and two events run");
+    expect(bytes[IMAGE_SIZE] == GUARD && last[HSC_SNAPSHOT_SIZE] == GUARD && span[3] == 43, "no more is written");
 }
 
 static void check_traces(void)

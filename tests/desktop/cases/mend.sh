@@ -4,7 +4,7 @@
 cp two-events.trace night.trace
 try 0 mend night.trace 0 one-event.patch
 prints << END
-1 event from place 0, 2 snapshots from index 1, none agreed; table not checked
+1 event from place 0, 2 snapshots from index 1, none agreed; ran 2 of 2 events; table not checked
 END
 { header 2 1; event 5 0 9; event 9 0 3; snapshot 0 0; snapshot 9 0; snapshot 9 3; } > wanted.trace
 same night.trace wanted.trace
@@ -14,7 +14,7 @@ try 0 check night.trace
 event 5 0 9 77 > stamp.patch
 try 0 mend night.trace 0 stamp.patch
 prints << END
-1 event from place 0, 0 snapshots from index 1, index 1 agreed; table not checked
+1 event from place 0, 0 snapshots from index 1, index 1 agreed; ran 1 of 2 events; table not checked
 END
 { header 2 1; event 5 0 9 77; event 9 0 3; snapshot 0 0; snapshot 9 0; snapshot 9 3; } > wanted.trace
 same night.trace wanted.trace
@@ -22,12 +22,34 @@ same night.trace wanted.trace
 # No events, in the middle and at the end.
 keep night.trace try 0 mend night.trace 1 empty.patch
 prints << END
-0 events from place 1, 0 snapshots from index 2, index 2 agreed; table not checked
+0 events from place 1, 0 snapshots from index 2, index 2 agreed; ran 1 of 2 events; table not checked
 END
 keep night.trace try 0 mend night.trace 2 empty.patch
 prints << END
-0 events from place 2, 0 snapshots from index 3, none agreed; table not checked
+0 events from place 2, 0 snapshots from index 3, none agreed; ran 0 of 2 events; table not checked
 END
+
+# What a mend would run is told, and nothing written. Events past the last snapshot are never run.
+keep night.trace try 0 mend --dry-run night.trace 0 one-event.patch
+prints << END
+1 event from place 0, 0 snapshots from index 1, index 1 agreed; ran 1 of 2 events; table not checked
+dry run: nothing is written
+END
+{ header 5 2; for value in 1 2 3 4 5; do event 5 0 $value; done; for value in 0 2 4; do snapshot $value 0; done; } > five.trace
+try 0 check five.trace
+{ event 5 0 9; event 5 0 9; } > nine.patch
+try 0 mend --dry-run five.trace 1 nine.patch
+says out '2 events from place 1, 1 snapshot from index 1, index 2 agreed; ran 4 of 5 events;'
+try 0 mend --dry-run five.trace 3 nine.patch
+says out '2 events from place 3, 1 snapshot from index 2, none agreed; ran 2 of 5 events;'
+try 0 mend --dry-run five.trace 4 one-event.patch
+says out '1 event from place 4, 0 snapshots from index 3, none agreed; ran 0 of 5 events;'
+{ header 1 1; event 5 0 9; snapshot 0 0; snapshot 9 0; } > one.trace
+try 0 mend one.trace 0 one-event.patch
+says out '; ran 1 of 1 event; table not checked'
+{ header 0 1; snapshot 0 0; } > none.trace
+try 0 mend none.trace 0 empty.patch
+says out '; ran 0 of 0 events; table not checked'
 
 # Patches that are refused: not whole events, past the end, a place beyond any image, an illegal event.
 zeros 13 > odd.patch
@@ -63,7 +85,7 @@ done
 cp two-events.trace night.trace
 try 0 mend --check night.trace 0 one-event.patch
 prints << END
-1 event from place 0, 2 snapshots from index 1, none agreed; table checked
+1 event from place 0, 2 snapshots from index 1, none agreed; ran 2 of 2 events; table checked
 END
 { header 2 1; event 5 0 9; event 9 0 3; snapshot 0 0; snapshot 9 0; snapshot 9 3; } > nine.trace
 same night.trace nine.trace

@@ -16,7 +16,7 @@ same made.trace two-events.trace
 verdict 'a new file has its mode by umask' [ "$(stat -c %a made.trace)" = 640 ]
 keep two-events.trace try 0 mend -o "$(pwd)/made-too.trace" two-events.trace 0 one-event.patch
 prints << END
-1 event from place 0, 2 snapshots from index 1, none agreed; table not checked
+1 event from place 0, 2 snapshots from index 1, none agreed; ran 2 of 2 events; table not checked
 written to $(pwd)/made-too.trace
 END
 same made-too.trace nine.trace
@@ -85,7 +85,7 @@ cp two-events.trace reader.trace
 chmod 444 reader.trace
 keep reader.trace try 0 mend reader.trace 0 one-event.patch --dry-run -o never.trace
 prints << END
-1 event from place 0, 2 snapshots from index 1, none agreed; table not checked
+1 event from place 0, 2 snapshots from index 1, none agreed; ran 2 of 2 events; table not checked
 dry run: nothing is written
 END
 verdict 'a dry run makes no file' [ ! -e never.trace ]

@@ -17,10 +17,10 @@ says out 'same: all 1048576 events'
 truncate -s $((12 * 1048576)) all.patch
 try 0 mend largest.trace 0 all.patch
 prints << END
-1048576 events from place 0, 1048575 snapshots from index 1, index 1048576 agreed; table not checked
+1048576 events from place 0, 1048575 snapshots from index 1, index 1048576 agreed; ran 1048576 of 1048576 events; table not checked
 END
 try 0 mend largest.trace 1048575 one-event.patch
-says out '1 snapshot from index 1048576, none agreed'
+says out '1 snapshot from index 1048576, none agreed; ran 1 of 1048576 events'
 try 0 show largest.trace 1048576
 says out 'ACC      9'
 truncate -s $((12 * 1048576 + 12)) over.patch
@@ -34,6 +34,23 @@ written to received.trace
 END
 same received.trace largest.trace
 rm largest.trace received.trace
+
+# The widest spacing: what a mend would run is told before it is written.
+header 1048576 4096 > wide.trace
+truncate -s $((24 + 12 * 1048576 + 68 * 257)) wide.trace
+try 0 replay wide.trace
+zeros 12 > blank.patch
+keep wide.trace try 0 mend --dry-run wide.trace 500000 blank.patch
+prints << END
+1 event from place 500000, 0 snapshots from index 123, index 123 agreed; ran 4096 of 1048576 events; table not checked
+dry run: nothing is written
+END
+keep wide.trace try 0 mend --dry-run wide.trace 0 one-event.patch
+prints << END
+1 event from place 0, 256 snapshots from index 1, none agreed; ran 1048576 of 1048576 events; table not checked
+dry run: nothing is written
+END
+rm wide.trace
 
 # A sender that has no end is refused at the first byte past the image.
 { header 1048576 4096; cat /dev/zero; } 2> /dev/null | "$PROGRAM" receive received.trace > out 2> err

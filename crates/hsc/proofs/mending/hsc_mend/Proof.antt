@@ -41,13 +41,13 @@ enum-known-s : tie.Need-enum-known-s
 enum-known-s c = search needs
 
 cast-write-span : tie.Need-cast-write-span
-cast-write-span c = omega (arith, mend-numbers _ _ _ (given-answered (c .before .before)) .first)
+cast-write-span c = omega (arith, mend-numbers _ _ _ (given-answered (c .before .before)))
 
 cast-write-span-2 : tie.Need-cast-write-span-2
-cast-write-span-2 c = omega (arith, mend-numbers _ _ _ (given-answered (c .before .before .before)) .stop)
+cast-write-span-2 c = omega (arith, mend-numbers _ _ _ (given-answered (c .before .before .before)))
 
 cast-write-span-3 : tie.Need-cast-write-span-3
-cast-write-span-3 c = omega (arith, mend-numbers _ _ _ (given-answered (c .before .before .before .before)) .ran)
+cast-write-span-3 c = omega (arith, mend-numbers _ _ _ (given-answered (c .before .before .before .before)))
 
 write-span-requires : tie.Need-write-span-requires
 write-span-requires c κs = search needs
