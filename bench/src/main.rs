@@ -14,11 +14,21 @@ use std::env;
 use hsc_tests::generate::event::event;
 use hsc_tests::generate::image::Parts;
 use hsc_tests::model::counter::Counter;
+use hsc_tests::model::event::Bytes;
 use hsc_tests::model::snapshot::{encode, SIZE};
 use hsc_tests::model::trace::MAX_EVENTS;
 use hsc_tests::subject::{on_each, Model, Subject, UNDER_TEST_NAME};
 
 use timing::{compare, in_turn, line, timed, ROUNDS, SIDES};
+
+/// The place of a pulse past the events that load settings.
+const PULSE: usize = 20;
+
+/// A write of the staged LPO, never the same value twice. Where no later event writes it, no later
+/// snapshot agrees.
+fn next_word(word: &Cell<i32>) -> Bytes {
+    event(2, 6, word.replace((word.get() + 1) % 65536))
+}
 
 fn images(spacing: usize) {
     let mut image = night::image(spacing);
@@ -50,11 +60,8 @@ fn images(spacing: usize) {
     let stop = (middle + 64).div_ceil(spacing);
     mend("mend, stops at once", &as_it_is, middle, &|| same.clone(), stop);
 
-    // The staged LPO is written once in the night, in the place of a pulse, and never the same
-    // value twice, so that no later snapshot agrees.
     let word = Cell::new(0);
-    let other = || event(2, 6, word.replace((word.get() + 1) % 65536)).to_vec();
-    mend("mend, runs to the end", &as_it_is, 20, &other, parts.snapshots);
+    mend("mend, runs to the end", &as_it_is, PULSE, &|| next_word(&word).to_vec(), parts.snapshots);
 
     // The last byte of each snapshot past the first, its second waiting cause, is none.
     let bend = |image: &mut [u8]| {
@@ -78,17 +85,16 @@ fn price() {
     let parts = Parts::of(&image);
     println!("K {SPACING}, mends of one event or none by the events that they run");
 
-    // The staged LPO again; the longest run goes first, so that no later event writes it.
+    // The longest run goes first, so that no later event writes LPO.
     let word = Cell::new(0);
     let points: Vec<(f64, f64)> = (0..=PARTS)
         .rev()
         .map(|part| {
             let ran = parts.events / PARTS * part;
-            // The first events load settings, and stay.
-            let first = (parts.events - ran).max(20);
+            let first = (parts.events - ran).max(PULSE);
             let name = format!("mend, runs {ran} events");
             let library = in_turn(&name, |side| {
-                let patch = event(2, 6, word.replace((word.get() + 1) % 65536));
+                let patch = next_word(&word);
                 let patch = if ran > 0 { &patch[..] } else { &[] };
                 let mut span = [0; 3];
                 let (seconds, status) =
@@ -100,7 +106,11 @@ fn price() {
         })
         .collect();
     let (check, each) = line(&points);
-    println!("  library: {:.2} ms and {:.2} ns for each event, by least squares", 1e3 * check, 1e9 * each);
+    println!(
+        "  library: {:.2} ms and {:.2} ns for each event run, by least squares over the least times",
+        1e3 * check,
+        1e9 * each
+    );
 }
 
 fn steps() {

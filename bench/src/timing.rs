@@ -28,7 +28,7 @@ pub fn compare<R: PartialEq>(name: &str, mut work: impl FnMut(&dyn Subject) -> R
 
 /// Runs side 0, the library, and side 1, taking turns at going first, after one run of each that
 /// is not counted. A run gives the seconds of its timed part and a result; the results must be
-/// equal. Gives side 0's median of seconds.
+/// equal. Gives side 0's least seconds.
 pub fn in_turn<R: PartialEq>(name: &str, mut run: impl FnMut(usize) -> (f64, R)) -> f64 {
     assert!(run(0).1 == run(1).1, "{name}: the results differ");
     let mut times = [Vec::new(), Vec::new()];
@@ -49,7 +49,7 @@ pub fn in_turn<R: PartialEq>(name: &str, mut run: impl FnMut(usize) -> (f64, R))
         median(ratios),
         library.1 / other.1
     );
-    1e-3 * library.0
+    library.1
 }
 
 /// The line through points that is nearest to them, by least squares: where it begins, and its slope.
