@@ -1,15 +1,16 @@
 -- What is claimed of how much mending ran (document 02, request 8): each statement whole, proved by naming the law that stands in another
 -- crate's `proofs/`. That `mend` promises this of its answer, beside demand 3, is `mend-contract` in `Claims`.
 use mathlib.Core.Path.{_≡_}
+use mathlib.Core.Bool.{true, false}
 use mathlib.Core.List.{List, []}
 use Prim.Native.Nat.{ℕ, suc, _+_, _-_, _*_, _/_, _≤_, _<_, min}
 use Rattle.word.specs.Part.{Bytes, part}
 use Rattle.refusal.specs.Refusals.{given}
 use Rattle.replay.specs.System.{System, Alike, Laws}
-use Rattle.replay.specs.Image.{Shape, snapshots, firstSnapshot, event, Fitting}
+use Rattle.replay.specs.Image.{Shape, snapshots, firstSnapshot, event, withSnapshot, Fitting}
 use Rattle.replay.specs.Replay as any
-use Rattle.replay.specs.Mend.{mend}
-use Rattle.replay.specs.EventsRun.{eventsRun, taken}
+use Rattle.replay.specs.Mend.{outcome, settled, mendOn, mend}
+use Rattle.replay.specs.EventsRun.{eventsRun, takenOn, taken}
 use Rattle.image.specs.Header.{snapshotCount, spacingOf}
 use Rattle.image_mend.specs.declared.Span.{Span}
 use Rattle.image_mend.specs.Mends.{mendAnswer}
@@ -31,7 +32,22 @@ module _ (image : List ℕ) (f : ℕ) (patch : List ℕ) (s : Span) (answered : 
 
 -- ---- over any system
 
--- the events that mending takes are those that are reported, for every table
+-- the events that mending takes are counted as it goes: none at the table's end, K where it stops, and K more where it goes on
+module _ {width : ℕ} (S : System width) (g : Shape) (end j : ℕ) (s : S .State) (image : List ℕ) where
+  pub taken-end : (mendOn S g end 0 j s image ≡ outcome image (suc j)) × (takenOn S g end 0 j s image ≡ 0)
+  taken-end = replay.EventsRun.taken-end S g end j s image
+
+  module _ (n : ℕ) (next : S .State) (reached : next ≡ any.following S g s image j) where
+    pub taken-stop : settled S g end image (suc j) next ≡ true
+        → (mendOn S g end (suc n) j s image ≡ outcome image (suc j)) × (takenOn S g end (suc n) j s image ≡ g .spacing)
+    taken-stop = replay.EventsRun.taken-stop S g end j s image n next reached
+
+    pub taken-more : settled S g end image (suc j) next ≡ false → let written = withSnapshot S g image (suc j) (S .encode next) in
+        (mendOn S g end (suc n) j s image ≡ mendOn S g end n (suc j) next written)
+        × (takenOn S g end (suc n) j s image ≡ g .spacing + takenOn S g end n (suc j) next written)
+    taken-more = replay.EventsRun.taken-more S g end j s image n next reached
+
+-- they are those that are reported, for every table
 pub taken-events : {width : ℕ} (S : System width) (g : Shape) (f n : ℕ) (patch image : List ℕ) → 0 < g .spacing → f ≤ g .count
     → taken S g f n patch image ≡ eventsRun g f (mend S g f n patch image .stop)
 taken-events = replay.EventsRun.taken-events
