@@ -24,8 +24,8 @@ pub enum Comparison {
 
 // Lists the n places, of count, where two traces that are not refused differ.
 fn list(first: &[u8], second: &[u8], count: usize, n: usize, row: &mut [u32]) -> Comparison
-    requires second_value { (traces_verdict first.now second.now ≡ given tt) × (count ≡ shared first.now second.now) }
-    requires n_value { n ≡ length (differing first.now second.now 0 count) }
+    requires accepted { (traces_verdict first.now second.now ≡ given tt) × (count ≡ shared first.now second.now) }
+    requires counted { n ≡ length (differing first.now second.now 0 count) }
     ensures answer { comparison_of result ≡ compare_answer first.now second.now (length row.old) }
     ensures row { row.new ≡ compare_row first.now second.now row.old }
 {

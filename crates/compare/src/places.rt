@@ -58,8 +58,8 @@ pub fn count_differences(first: &[u8], second: &[u8], count: usize) -> Compariso
 
 // Writes the places, of the first count, where two traces that are not refused differ, and which are n, from the row's start on.
 pub fn write_differences(first: &[u8], second: &[u8], count: usize, n: usize, row: &mut [u32])
-    requires second_value { (traces_verdict first.now second.now ≡ given tt) × (count ≤ shared first.now second.now) }
-    requires n_value { (n ≡ length (differing first.now second.now 0 count)) × (n ≤ length row.old) }
+    requires accepted { (traces_verdict first.now second.now ≡ given tt) × (count ≤ shared first.now second.now) }
+    requires counted { (n ≡ length (differing first.now second.now 0 count)) × (n ≤ length row.old) }
     ensures { row.new ≡ put row.old 0 (differing first.now second.now 0 count) }
 {
     let mut k = 0;

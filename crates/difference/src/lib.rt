@@ -22,8 +22,8 @@ fn same_block(first: &[u8], second: &[u8], at: usize, size: usize) -> bool
 
 // The first difference where it is before byte end, else end. None is before byte from.
 fn scan(first: &[u8], second: &[u8], from: usize, end: usize) -> usize
-    requires from_le_end { (from ≤ end) × (end ≤ length first.now) × (end ≤ length second.now) }
-    requires from_bound { from ≤ first_difference first.now second.now }
+    requires within { (from ≤ end) × (end ≤ length first.now) × (end ≤ length second.now) }
+    requires same_before { from ≤ first_difference first.now second.now }
     ensures { result ≡ min end (first_difference first.now second.now) }
 {
     let mut i = from;

@@ -25,9 +25,9 @@ fn draw_in(
     state: &mut [u8],
     moving: &mut [u8],
 )
-    requires snapshot_len { (length snapshot.old ≡ (system ed).size) × ((system ed).formed snapshot.old ≡ true) }
-    requires events_len { length events.now ≡ length row.old * event_size }
-    requires state_len { (length state.old ≡ (system ed).size) × (length moving.old ≡ (system ed).beside) }
+    requires snapshot_formed { (length snapshot.old ≡ (system ed).size) × ((system ed).formed snapshot.old ≡ true) }
+    requires one_event_each { length events.now ≡ length row.old * event_size }
+    requires sizes { (length state.old ≡ (system ed).size) × (length moving.old ≡ (system ed).beside) }
     ensures snapshot { snapshot.new
         ≡ (system ed).encode (run (system ed) ((system ed).decode snapshot.old) events.now 0 (length row.old)) }
     ensures row { row.new

@@ -12,9 +12,9 @@ use refusal::status_of;
 // were.
 #[unsafe(no_mangle)]
 pub extern "C" fn hsc_draw(snapshot: &mut [u8], events: &[u8], row: &mut [i32]) -> u64
-    ensures value { result ≡ draw_status snapshot.old events.now row.old }
-    ensures snapshot_after { snapshot.new ≡ draw_snapshot Base snapshot.old events.now (length row.old) }
-    ensures row_after { row.new ≡ draw_row Base snapshot.old events.now row.old }
+    ensures status { result ≡ draw_status snapshot.old events.now row.old }
+    ensures snapshot { snapshot.new ≡ draw_snapshot Base snapshot.old events.now (length row.old) }
+    ensures row { row.new ≡ draw_row Base snapshot.old events.now row.old }
 {
     status_of(draw(Edition::Base, snapshot, events, row))
 }

@@ -20,9 +20,9 @@ fn write_span(span: &mut [u32], first: u32, stop: u32, ran: u32)
 // refusal leaves image and span as they were.
 #[unsafe(no_mangle)]
 pub extern "C" fn hsc_mend(image: &mut [u8], first: u64, patch: &[u8], span: &mut [u32; 3]) -> u64
-    ensures value { result ≡ mend_status image.old first patch.now }
-    ensures image_after { image.new ≡ mend_image image.old first patch.now }
-    ensures span_after { span.new ≡ mend_span image.old first patch.now span.old }
+    ensures status { result ≡ mend_status image.old first patch.now }
+    ensures image { image.new ≡ mend_image image.old first patch.now }
+    ensures span { span.new ≡ mend_span image.old first patch.now span.old }
 {
     match mend(image, first, patch) {
         Mending::Refused(r) => status_of(Verdict::Refused(r)),

@@ -25,8 +25,8 @@ fn read_verdict(snapshot: &[u8]) -> Verdict
 // Writes the state and the bits shown but not stored into fields. A refusal leaves them as they were.
 #[unsafe(no_mangle)]
 pub extern "C" fn hsc_read(snapshot: &[u8], fields: &mut [i32; 32]) -> u64
-    ensures value { result ≡ read_answer snapshot.now }
-    ensures fields_after { fields.new ≡ read_after snapshot.now fields.old }
+    ensures status { result ≡ read_answer snapshot.now }
+    ensures fields { fields.new ≡ read_after snapshot.now fields.old }
 {
     let status = status_of(read_verdict(snapshot));
     if status == 0 {

@@ -23,10 +23,10 @@ pub extern "C" fn hsc_reader_feed(
     buffer: &mut [u8],
     taken: &mut [u64; 2],
 ) -> u64
-    ensures value { result ≡ feed_status reader.old chunk.now buffer.old }
-    ensures reader_after { reader.new ≡ feed_reader reader.old chunk.now buffer.old }
-    ensures buffer_after { buffer.new ≡ feed_buffer reader.old chunk.now buffer.old }
-    ensures taken_after { taken.new ≡ feed_taken reader.old chunk.now buffer.old taken.old }
+    ensures status { result ≡ feed_status reader.old chunk.now buffer.old }
+    ensures reader { reader.new ≡ feed_reader reader.old chunk.now buffer.old }
+    ensures buffer { buffer.new ≡ feed_buffer reader.old chunk.now buffer.old }
+    ensures taken { taken.new ≡ feed_taken reader.old chunk.now buffer.old taken.old }
 {
     status_of(feed(reader, chunk, buffer, taken))
 }
@@ -34,9 +34,9 @@ pub extern "C" fn hsc_reader_feed(
 // Takes the sender's end: the buffer holds the final state's snapshot. A refusal leaves it as it was; but for 9 it stays in the reader.
 #[unsafe(no_mangle)]
 pub extern "C" fn hsc_reader_end(reader: &mut [u8; READER_SIZE], buffer: &mut [u8]) -> u64
-    ensures value { result ≡ end_status reader.old buffer.old }
-    ensures reader_after { reader.new ≡ end_reader reader.old buffer.old }
-    ensures buffer_after { buffer.new ≡ end_buffer reader.old buffer.old }
+    ensures status { result ≡ end_status reader.old buffer.old }
+    ensures reader { reader.new ≡ end_reader reader.old buffer.old }
+    ensures buffer { buffer.new ≡ end_buffer reader.old buffer.old }
 {
     status_of(end(reader, buffer))
 }

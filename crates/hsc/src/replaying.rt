@@ -9,9 +9,9 @@ use refusal::status_of;
 // Writes every snapshot anew, and the final state's into last. A refusal leaves both as they were.
 #[unsafe(no_mangle)]
 pub extern "C" fn hsc_replay(image: &mut [u8], last: &mut [u8; 68]) -> u64
-    ensures value { result ≡ replay_status image.old }
-    ensures image_after { image.new ≡ replay_image image.old }
-    ensures last_after { last.new ≡ replay_last image.old last.old }
+    ensures status { result ≡ replay_status image.old }
+    ensures image { image.new ≡ replay_image image.old }
+    ensures last { last.new ≡ replay_last image.old last.old }
 {
     status_of(replay(image, last))
 }

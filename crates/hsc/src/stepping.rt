@@ -44,8 +44,8 @@ fn step_verdict(snapshot: &[u8], event: &[u8]) -> Verdict
 
 // Writes the next snapshot over this one: a row of one event.
 fn step_over(snapshot: &mut [u8], event: &[u8])
-    requires snapshot_len { (length snapshot.old ≡ snapshot_size) × (formed snapshot.old ≡ true) }
-    requires event_len { length event.now ≡ event_size }
+    requires snapshot_formed { (length snapshot.old ≡ snapshot_size) × (formed snapshot.old ≡ true) }
+    requires event_whole { length event.now ≡ event_size }
     ensures { snapshot.new ≡ encode (step_event event.now (decode snapshot.old)) }
 {
     let mut moving = [0u8; MOVING_SIZE];
@@ -57,8 +57,8 @@ fn step_over(snapshot: &mut [u8], event: &[u8])
 // Takes the event: the next snapshot stands over the lent one. A refusal leaves it as it was.
 #[unsafe(no_mangle)]
 pub extern "C" fn hsc_step(snapshot: &mut [u8], event: &[u8]) -> u64
-    ensures value { result ≡ step_answer snapshot.old event.now }
-    ensures snapshot_after { snapshot.new ≡ step_after snapshot.old event.now }
+    ensures status { result ≡ step_answer snapshot.old event.now }
+    ensures snapshot { snapshot.new ≡ step_after snapshot.old event.now }
 {
     let status = status_of(step_verdict(snapshot, event));
     if status == 0 {

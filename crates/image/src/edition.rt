@@ -87,8 +87,8 @@ pub fn begin(ed: Edition, image: &mut [u8], at: usize)
 
 // Loads the state of the well-formed snapshot from byte at on.
 pub fn load(ed: Edition, image: &[u8], at: usize, state: &mut [u8], moving: &mut [u8])
-    requires state_len { (length state.old ≡ (system ed).size) × (length moving.old ≡ (system ed).beside) }
-    requires ed_in_bounds { (at + (system ed).size ≤ length image.now) × ((system ed).formed (part image.now at (system ed).size) ≡ true) }
+    requires sizes { (length state.old ≡ (system ed).size) × (length moving.old ≡ (system ed).beside) }
+    requires snapshot_formed { (at + (system ed).size ≤ length image.now) × ((system ed).formed (part image.now at (system ed).size) ≡ true) }
     ensures state { (system ed).state_in state.new moving.new
         ≡ (system ed).decode (part image.now at (system ed).size) }
     ensures held { Held (system ed) state.new moving.new }

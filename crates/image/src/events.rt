@@ -35,8 +35,8 @@ pub fn advance_drawing(
     moving: &mut [u8],
     row: &mut [i32],
 )
-    requires event_size_in_bounds { (at + count * event_size ≤ length events.now) × Held (system ed) state.old moving.old }
-    requires row_len_bound { length row.old ≤ count }
+    requires events_lent { (at + count * event_size ≤ length events.now) × Held (system ed) state.old moving.old }
+    requires row_within { length row.old ≤ count }
     ensures state { (system ed).state_in state.new moving.new
         ≡ run (system ed) ((system ed).state_in state.old moving.old) events.now at count }
     ensures held { Held (system ed) state.new moving.new }

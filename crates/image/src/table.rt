@@ -39,7 +39,7 @@ pub fn write_snapshot(
     state: &[u8],
     moving: &[u8],
 )
-    requires ed_in_bounds { header_size + count * event_size + j * (system ed).size + (system ed).size ≤ length image.old }
+    requires place_within { header_size + count * event_size + j * (system ed).size + (system ed).size ≤ length image.old }
     requires held { Held (system ed) state.now moving.now }
     ensures { image.new ≡ put image.old (header_size + count * event_size + j * (system ed).size)
         ((system ed).encode ((system ed).state_in state.now moving.now)) }

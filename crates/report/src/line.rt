@@ -15,8 +15,8 @@ pub fn replay_line(
     flags: u32,
 ) -> usize
     requires { 160 ≤ length s.old }
-    ensures s_after { take result s.new ≡ replay_line events snapshots acc out er flags }
-    ensures upper_bound { result ≤ length s.new }
+    ensures line { take result s.new ≡ replay_line events snapshots acc out er flags }
+    ensures within { result ≤ length s.new }
 {
     let a = text::append_decimal(s, 0, b"events ", events);
     let b = text::append_decimal(s, a, b" snapshots ", snapshots);
@@ -30,8 +30,8 @@ pub fn replay_line(
 // The line of a refusal; answers its length.
 pub fn refusal_line(s: &mut [u8], number: u64, place: u64) -> usize
     requires { 160 ≤ length s.old }
-    ensures s_after { take result s.new ≡ refusal_line number place }
-    ensures upper_bound { result ≤ length s.new }
+    ensures line { take result s.new ≡ refusal_line number place }
+    ensures within { result ≤ length s.new }
 {
     let a = text::append_decimal(s, 0, b"refused ", number);
     let b = text::append_decimal(s, a, b" at ", place);

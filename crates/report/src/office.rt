@@ -18,9 +18,9 @@ use snapshot::codec::decode;
 // The line of an image that was replayed, by its header and the final state's snapshot; answers the line's length.
 fn accepted_line(image: &[u8], last: &[u8], line: &mut [u8]) -> usize
     requires { (header_size ≤ length image.now) × (snapshot_size ≤ length last.now) × (160 ≤ length line.old) }
-    ensures line_after { take result line.new ≡ line_of (event_count image.now) (snapshot_count image.now)
+    ensures line { take result line.new ≡ line_of (event_count image.now) (snapshot_count image.now)
         (given (decode (part last.now 0 snapshot_size))) }
-    ensures upper_bound { result ≤ length line.new }
+    ensures within { result ≤ length line.new }
 {
     let events = header::number(image, header::EVENT_COUNT) as u64;
     let snapshots = header::number(image, header::SNAPSHOT_COUNT) as u64;
@@ -39,8 +39,8 @@ fn accepted_line(image: &[u8], last: &[u8], line: &mut [u8]) -> usize
 // Replays the image and puts its line at the front of a buffer; answers the line's length.
 pub fn answer(image: &mut [u8], line: &mut [u8]) -> usize
     requires { 160 ≤ length line.old }
-    ensures line_after { take result line.new ≡ office_line image.old }
-    ensures upper_bound { result ≤ length line.new }
+    ensures line { take result line.new ≡ office_line image.old }
+    ensures within { result ≤ length line.new }
 {
     let mut last = [0u8; MAX_SIZE];
     match replay(image, &mut last) {

@@ -48,8 +48,8 @@ pub fn append_signed(s: &mut [u8], at: usize, word: &[u8], v: i32) -> usize
 
 // Appends a word and a number in hex, in `width` digits that hold it.
 pub fn append_hex(s: &mut [u8], at: usize, word: &[u8], width: usize, n: u64) -> usize
-    requires le_width { (1 ≤ width) × (width ≤ 16) × (n < 16 ^ width) }
-    requires n_in_bounds { at + length (word.now ++ hexadecimal width n) ≤ length s.old }
+    requires digits { (1 ≤ width) × (width ≤ 16) × (n < 16 ^ width) }
+    requires room { at + length (word.now ++ hexadecimal width n) ≤ length s.old }
     ensures { Appended s.old at (word.now ++ hexadecimal width n) s.new result }
 {
     let mut digits = [0u8; 16];
