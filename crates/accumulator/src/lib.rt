@@ -1,9 +1,11 @@
 // One count of the accumulator.
+#![tactic(auto)]
+
 ghost use Rattle.std.specs.Prelude.{◌≡◌};
 ghost use Rattle.accumulator.specs.Count.{up, down};
 
 // ACC after a count, and the cause that the count raises, 0 for none.
-#[derive(Drop)]
+#[derive(Clone, Copy)]
 pub struct Counted {
     pub acc: i32,
     pub cause: u8,

@@ -1,4 +1,6 @@
 // Two traces side by side: the places where they differ, into a lent row, and the rest of the longer.
+#![tactic(auto)]
+
 ghost use Rattle.std.specs.Prelude.{◌≡◌, length};
 ghost use Rattle.refusal.specs.declared.Trace.TheVariants.{First};
 ghost use Rattle.refusal.specs.Refusals.{given, ◌and_then◌};
@@ -16,7 +18,7 @@ mod places;
 pub mod rest;
 
 // What comparing answers: a refusal, or how many places differ.
-#[derive(Drop)]
+#[derive(Clone, Copy)]
 pub enum Comparison {
     Refused(Refusal),
     Listed(usize),

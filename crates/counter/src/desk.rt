@@ -3,7 +3,7 @@ ghost use Rattle.std.specs.Prelude.{◌≡◌, ◌<◌};
 ghost use Rattle.counter.specs.Desk.{queued_of, empty, waits, starting, waiting, resting, advancing, post, finish};
 
 // The waiting causes stand at the front of `waiting`, `queued` of them, in order of arrival.
-#[derive(Drop)]
+#[derive(Clone, Copy)]
 pub struct Desk {
     pub running: u8,
     pub waiting: [u8; 2],
@@ -11,7 +11,7 @@ pub struct Desk {
 }
 
 // What becomes of a cause that is posted; one that waited before waits.
-#[derive(Drop)]
+#[derive(Clone, Copy)]
 pub enum Outcome {
     Starts,
     Waits,
@@ -19,21 +19,21 @@ pub enum Outcome {
 }
 
 // The desk after a cause is posted, and what became of the cause.
-#[derive(Drop)]
+#[derive(Clone, Copy)]
 pub struct Posted {
     pub desk: Desk,
     pub outcome: Outcome,
 }
 
 // What starts when a routine is done.
-#[derive(Drop)]
+#[derive(Clone, Copy)]
 pub enum Next {
     Cause(u8),
     Nothing,
 }
 
 // The desk after a routine is done, and what starts.
-#[derive(Drop)]
+#[derive(Clone, Copy)]
 pub struct Finished {
     pub desk: Desk,
     pub next: Next,

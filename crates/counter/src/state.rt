@@ -6,7 +6,7 @@ use super::desk;
 use super::desk::Desk;
 
 // What a load copies from staged to active, in the snapshot's order.
-#[derive(Drop)]
+#[derive(Clone, Copy)]
 pub struct Settings {
     pub pfn: i16,
     pub mode: i16,
@@ -19,7 +19,7 @@ pub struct Settings {
     pub lpo: u16,
 }
 
-#[derive(Drop)]
+#[derive(Clone, Copy)]
 pub struct Counter {
     pub staged: Settings,
     pub active: Settings,
@@ -32,7 +32,7 @@ pub struct Counter {
 }
 
 // What an input sample asks for.
-#[derive(Drop)]
+#[derive(Clone, Copy)]
 pub enum Count {
     None,
     Up,
@@ -40,7 +40,7 @@ pub enum Count {
 }
 
 // What an input sample makes of ACC and of the flags, and the cause that it raises, 0 for none.
-#[derive(Drop)]
+#[derive(Clone, Copy)]
 pub struct Sampled {
     pub acc: i32,
     pub flags: u32,

@@ -1,5 +1,7 @@
 // Two parts of bytes compared up to the first place where they differ: document 02, request 3. Blocks are compared whole, so that the
 // compiler compares their bytes at once; the byte is looked for in the first block that differs.
+#![tactic(auto)]
+
 ghost use Rattle.std.specs.Prelude.{◌≡◌, ◌+◌, ◌≤◌, min, length};
 ghost use Rattle.word.specs.Part.{part};
 ghost use Rattle.word.specs.Same.{same_bytes};

@@ -1,4 +1,6 @@
 // Drawing (document 02, request 2): the accumulator after each of many events into a lent row, and the snapshot after all of them.
+#![tactic(auto)]
+
 ghost use Rattle.std.specs.Prelude.{◌≡◌, true, ◌*◌, length};
 ghost use Rattle.refusal.specs.Refusals.{verdict_of, given};
 ghost use Rattle.replay.specs.Events.{run};

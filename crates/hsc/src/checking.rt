@@ -6,8 +6,7 @@ use snapshot::EVENT_SIZE;
 use snapshot::event::legal_event;
 
 // 1 where the event is legal, 0 where it is not, 9 where it is not 12 bytes.
-#[unsafe(no_mangle)]
-pub extern "C" fn hsc_event_check(event: &[u8]) -> u32
+pub fn hsc_event_check(event: &[u8]) -> u32
     ensures { result ≡ check_answer event.now }
 {
     if event.len() != EVENT_SIZE {

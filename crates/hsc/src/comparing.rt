@@ -9,8 +9,7 @@ use refusal::{Verdict, status_of, trace_number};
 use word::parts::shorter;
 
 // Writes the places where the traces differ into the row, and their number into count. A refusal leaves both as they were.
-#[unsafe(no_mangle)]
-pub extern "C" fn hsc_compare(first: &[u8], second: &[u8], row: &mut [u32], count: &mut u32) -> u64
+pub fn hsc_compare(first: &[u8], second: &[u8], row: &mut [u32], count: &mut u32) -> u64
     ensures status { result ≡ compare_status first.now second.now row.old }
     ensures row { row.new ≡ compare_row first.now second.now row.old }
     ensures count { count.new ≡ compare_count first.now second.now row.old count.old }
@@ -34,8 +33,7 @@ fn write_part(part: &mut [u64], place: u64, size: u64)
 }
 
 // Tells the rest of the longer trace: which trace it is, and in part the place of the rest's first byte there and its length.
-#[unsafe(no_mangle)]
-pub extern "C" fn hsc_rest<'a>(first: &'a [u8], second: &'a [u8], part: &mut [u64; 2]) -> u32
+pub fn hsc_rest<'a>(first: &'a [u8], second: &'a [u8], part: &mut [u64; 2]) -> u32
     ensures trace { result ≡ rest_number first.now second.now }
     ensures part { part.new ≡ rest_part first.now second.now }
 {

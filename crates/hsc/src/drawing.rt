@@ -10,8 +10,7 @@ use refusal::status_of;
 
 // Takes the events over the snapshot, as so many steps, and writes the accumulator after each into the row. A refusal leaves both as they
 // were.
-#[unsafe(no_mangle)]
-pub extern "C" fn hsc_draw(snapshot: &mut [u8], events: &[u8], row: &mut [i32]) -> u64
+pub fn hsc_draw(snapshot: &mut [u8], events: &[u8], row: &mut [i32]) -> u64
     ensures status { result ≡ draw_status snapshot.old events.now row.old }
     ensures snapshot { snapshot.new ≡ draw_snapshot Base snapshot.old events.now (length row.old) }
     ensures row { row.new ≡ draw_row Base snapshot.old events.now row.old }

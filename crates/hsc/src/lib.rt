@@ -1,4 +1,6 @@
 // The C surface: what the depot's program calls, with numbers and lent buffers. Document 01, "Trace image", has the refusals.
+#![tactic(auto)]
+
 pub mod checking;
 pub mod comparing;
 pub mod differing;

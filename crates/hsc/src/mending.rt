@@ -18,8 +18,7 @@ fn write_span(span: &mut [u32], first: u32, stop: u32, ran: u32)
 
 // Copies the patch over the events from place first on and mends the snapshots: span holds the first compared, the stop and the events run. A
 // refusal leaves image and span as they were.
-#[unsafe(no_mangle)]
-pub extern "C" fn hsc_mend(image: &mut [u8], first: u64, patch: &[u8], span: &mut [u32; 3]) -> u64
+pub fn hsc_mend(image: &mut [u8], first: u64, patch: &[u8], span: &mut [u32; 3]) -> u64
     ensures status { result ≡ mend_status image.old first patch.now }
     ensures image { image.new ≡ mend_image image.old first patch.now }
     ensures span { span.new ≡ mend_span image.old first patch.now span.old }

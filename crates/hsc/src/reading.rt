@@ -23,8 +23,7 @@ fn read_verdict(snapshot: &[u8]) -> Verdict
 }
 
 // Writes the state and the bits shown but not stored into fields. A refusal leaves them as they were.
-#[unsafe(no_mangle)]
-pub extern "C" fn hsc_read(snapshot: &[u8], fields: &mut [i32; 32]) -> u64
+pub fn hsc_read(snapshot: &[u8], fields: &mut [i32; 32]) -> u64
     ensures status { result ≡ read_answer snapshot.now }
     ensures fields { fields.new ≡ read_after snapshot.now fields.old }
 {

@@ -7,8 +7,7 @@ use receive::{READER_SIZE, end, feed, new};
 use refusal::status_of;
 
 // Makes a reader of which nothing was taken.
-#[unsafe(no_mangle)]
-pub extern "C" fn hsc_reader_new(reader: &mut [u8; READER_SIZE])
+pub fn hsc_reader_new(reader: &mut [u8; READER_SIZE])
     ensures { reader.new ≡ new_reader }
 {
     new(reader);
@@ -16,8 +15,7 @@ pub extern "C" fn hsc_reader_new(reader: &mut [u8; READER_SIZE])
 
 // Takes bytes of the chunk until the next snapshot's place or the chunk's end: taken holds their number, and 1 if the buffer now holds that
 // snapshot. A refusal leaves buffer and taken as they were; but for 9 it stays in the reader.
-#[unsafe(no_mangle)]
-pub extern "C" fn hsc_reader_feed(
+pub fn hsc_reader_feed(
     reader: &mut [u8; READER_SIZE],
     chunk: &[u8],
     buffer: &mut [u8],
@@ -32,8 +30,7 @@ pub extern "C" fn hsc_reader_feed(
 }
 
 // Takes the sender's end: the buffer holds the final state's snapshot. A refusal leaves it as it was; but for 9 it stays in the reader.
-#[unsafe(no_mangle)]
-pub extern "C" fn hsc_reader_end(reader: &mut [u8; READER_SIZE], buffer: &mut [u8]) -> u64
+pub fn hsc_reader_end(reader: &mut [u8; READER_SIZE], buffer: &mut [u8]) -> u64
     ensures status { result ≡ end_status reader.old buffer.old }
     ensures reader { reader.new ≡ end_reader reader.old buffer.old }
     ensures buffer { buffer.new ≡ end_buffer reader.old buffer.old }

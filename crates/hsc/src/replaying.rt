@@ -7,8 +7,7 @@ use image_replay::replay;
 use refusal::status_of;
 
 // Writes every snapshot anew, and the final state's into last. A refusal leaves both as they were.
-#[unsafe(no_mangle)]
-pub extern "C" fn hsc_replay(image: &mut [u8], last: &mut [u8; 68]) -> u64
+pub fn hsc_replay(image: &mut [u8], last: &mut [u8; 68]) -> u64
     ensures status { result ≡ replay_status image.old }
     ensures image { image.new ≡ replay_image image.old }
     ensures last { last.new ≡ replay_last image.old last.old }

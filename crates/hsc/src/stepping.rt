@@ -55,8 +55,7 @@ fn step_over(snapshot: &mut [u8], event: &[u8])
 }
 
 // Takes the event: the next snapshot stands over the lent one. A refusal leaves it as it was.
-#[unsafe(no_mangle)]
-pub extern "C" fn hsc_step(snapshot: &mut [u8], event: &[u8]) -> u64
+pub fn hsc_step(snapshot: &mut [u8], event: &[u8]) -> u64
     ensures status { result ≡ step_answer snapshot.old event.now }
     ensures snapshot { snapshot.new ≡ step_after snapshot.old event.now }
 {

@@ -3,8 +3,7 @@ ghost use Rattle.std.specs.Prelude.{◌≡◌};
 ghost use Rattle.hsc.specs.Version.{version};
 
 // The number that the header of the same version has.
-#[unsafe(no_mangle)]
-pub extern "C" fn hsc_version() -> u32
+pub fn hsc_version() -> u32
     ensures { result ≡ version }
 {
     900

@@ -9,7 +9,7 @@ use counter::state::fresh;
 use snapshot::{MOVING_SIZE, SNAPSHOT_SIZE, codec, event, form, split};
 
 // The editions, by the header's sixth number.
-#[derive(Drop)]
+#[derive(Clone, Copy)]
 pub enum Edition {
     Base,
 }

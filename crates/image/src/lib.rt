@@ -1,4 +1,6 @@
 // Document 01's trace image in a lent slice: its edition, its header, its events, its table, and what is refused.
+#![tactic(auto)]
+
 pub mod check;
 pub mod edition;
 pub mod events;

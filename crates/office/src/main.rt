@@ -1,4 +1,6 @@
 // The office program: the line of the image on standard input. Its stored input is document 01's example.
-fn main() {
-    report::office::run();
+#![tactic(auto)]
+
+fn main(rt: HostRuntime) {
+    report::office::run(&rt);
 }

@@ -1,4 +1,6 @@
 // The office program on no input.
-fn main() {
-    report::office::run();
+#![tactic(auto)]
+
+fn main(rt: HostRuntime) {
+    report::office::run(&rt);
 }

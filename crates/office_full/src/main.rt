@@ -1,4 +1,6 @@
 // The office program on an image of exactly 65,536 bytes.
-fn main() {
-    report::office::run();
+#![tactic(auto)]
+
+fn main(rt: HostRuntime) {
+    report::office::run(&rt);
 }

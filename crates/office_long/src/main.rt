@@ -1,4 +1,6 @@
 // The office program on one byte too many.
-fn main() {
-    report::office::run();
+#![tactic(auto)]
+
+fn main(rt: HostRuntime) {
+    report::office::run(&rt);
 }

@@ -1,4 +1,6 @@
 // The office program on an image that ends with a negative ACC.
-fn main() {
-    report::office::run();
+#![tactic(auto)]
+
+fn main(rt: HostRuntime) {
+    report::office::run(&rt);
 }

@@ -1,16 +1,18 @@
 // The refusals of document 01's table and of document 02, and the verdict on what was lent.
+#![tactic(auto)]
+
 ghost use Rattle.std.specs.Prelude.{◌≡◌, ◌-◌, ◌^◌, min};
 ghost use Rattle.refusal.specs.Refusals.{trace_number, number_of, trace_of, place_of, verdict_of, status_of, Placed};
 
 // One of two traces that are lent side by side.
-#[derive(Drop)]
+#[derive(Clone, Copy)]
 pub enum Trace {
     First,
     Second,
 }
 
 // Each refusal in the table's order; a place stands with those that have one, and a trace with the one that names it.
-#[derive(Drop)]
+#[derive(Clone, Copy)]
 pub enum Refusal {
     Short,
     Limits,
@@ -25,7 +27,7 @@ pub enum Refusal {
     Row,
 }
 
-#[derive(Drop)]
+#[derive(Clone, Copy)]
 pub enum Verdict {
     Refused(Refusal),
     Accepted,

@@ -1,4 +1,6 @@
 // The lines that the office program writes.
+#![tactic(auto)]
+
 pub mod line;
 pub mod office;
 pub mod text;

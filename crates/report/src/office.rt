@@ -11,9 +11,10 @@ use super::line::{refusal_line, replay_line};
 use image::edition::MAX_SIZE;
 use image::header;
 use image_replay::replay;
-use libc::{STDIN_FILENO, STDOUT_FILENO};
 use refusal::{Verdict, number_of, place_of};
 use snapshot::codec::decode;
+use std::io;
+use std::io::{Read, Write};
 
 // The line of an image that was replayed, by its header and the final state's snapshot; answers the line's length.
 fn accepted_line(image: &[u8], last: &[u8], line: &mut [u8]) -> usize
@@ -49,21 +50,42 @@ pub fn answer(image: &mut [u8], line: &mut [u8]) -> usize
     }
 }
 
+// Reads until the buffer is full, the input ends or a read fails; answers how many bytes stand at the buffer's front.
+fn read_full(input: &mut impl Read, buf: &mut [u8]) -> usize
+    ensures { result ≤ length buf.new }
+{
+    let mut done = 0;
+    while done < buf.len() {
+        match input.read(&mut buf[done..]) {
+            Ok(0) => break,
+            Ok(n) => done += n,
+            Err(_) => break,
+        }
+    }
+    done
+}
+
+// Writes a line; what standard output does not take is lost.
+fn put(rt: &impl Print, line: &[u8]) {
+    let _ = io::writer(rt).write_all(line);
+}
+
 // Writes the image's line.
-fn tell(image: &mut [u8]) {
+fn tell(rt: &impl Print, image: &mut [u8]) {
     let mut line = [0u8; 160];
     let n = answer(image, &mut line);
-    io::write_all(STDOUT_FILENO, &line[..n]);
+    put(rt, &line[..n]);
 }
 
 // The whole program. One byte past the buffer is too long.
-pub fn run() {
-    let mut image = io::large_buffer();
-    let n = io::read_full(STDIN_FILENO, &mut image);
+pub fn run(rt: &(impl Input + Print)) {
+    let mut input = rt.reader();
+    let mut image = [0u8; 65536];
+    let n = read_full(&mut input, &mut image);
     let mut more = [0u8; 1];
-    if io::read_full(STDIN_FILENO, &mut more) == 0 {
-        tell(&mut image[..n]);
+    if read_full(&mut input, &mut more) == 0 {
+        tell(rt, &mut image[..n]);
     } else {
-        io::write_all(STDOUT_FILENO, b"too long\n");
+        put(rt, b"too long\n");
     }
 }

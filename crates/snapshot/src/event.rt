@@ -9,7 +9,7 @@ use counter::legality;
 use word::bytes;
 
 // What an event asks for; its stamp is left out.
-#[derive(Drop)]
+#[derive(Clone, Copy)]
 pub struct Event {
     pub kind: u8,
     pub sub: u8,

@@ -1,4 +1,6 @@
 // Document 01's bytes: the snapshot of a state, and an event, read and written in a lent slice.
+#![tactic(auto)]
+
 pub mod codec;
 pub mod event;
 pub mod form;

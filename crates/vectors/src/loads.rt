@@ -1,9 +1,9 @@
 // Crate `counter`: the rows of document 01's bench table that are run, and not proved, and those of document 02, request 6. Settings by
 // what a row names, the rest good.
+use super::out::{decimal, text};
 use super::words::verdict;
 use counter::state::Settings;
 use counter::{flag, rules, state, stepping};
-use libc::STDOUT_FILENO;
 use word::bits;
 
 pub fn settings(pfn: i16, mode: i16, hip: i32, lop: i32, ovf: i32, unf: i32) -> Settings {
@@ -27,58 +27,58 @@ fn masked(s: Settings, omb: u16) -> Settings {
     t
 }
 
-fn print_error(name: &[u8], broken: u16) {
-    io::write_all(STDOUT_FILENO, name);
+fn print_error(rt: &impl Print, name: &[u8], broken: u16) {
+    text(rt, name);
     if broken == 0 {
-        io::write_all(STDOUT_FILENO, b" passes");
+        text(rt, b" passes");
     } else {
-        io::write_all(STDOUT_FILENO, b" gives ");
-        io::print_decimal(STDOUT_FILENO, broken as u64);
+        text(rt, b" gives ");
+        decimal(rt, broken as u64);
     }
 }
 
 // One load: its name, and the rule that it should break, 0 for none.
-fn load(name: &[u8], s: Settings, expected: u16) {
+fn load(rt: &impl Print, name: &[u8], s: Settings, expected: u16) {
     let broken = rules::first_broken(s);
-    print_error(name, broken);
-    verdict(broken == expected);
+    print_error(rt, name, broken);
+    verdict(rt, broken == expected);
 }
 
 // One preset load of these settings over good ones with HIP 3: the staged HIP should be active after it exactly if no rule is broken.
-fn preset_load(name: &[u8], s: Settings, expected: u16) {
+fn preset_load(rt: &impl Print, name: &[u8], s: Settings, expected: u16) {
     let mut c = state::fresh();
     c.staged = s;
     c.active = settings(3, 2, 3, -2, 5, -3);
     c.flags = bits::set(c.flags, flag::LOADED);
     let d = stepping::step(c, 6, 0, 0);
     let a = d.active;
-    print_error(name, d.er);
-    verdict(d.er == expected && (a.hip == s.hip) == (expected == 0) && a.omb == 0);
+    print_error(rt, name, d.er);
+    verdict(rt, d.er == expected && (a.hip == s.hip) == (expected == 0) && a.omb == 0);
 }
 
-pub fn run() {
-    load(b"PFN 2", settings(2, 2, 4, -2, 5, -3), 1);
-    load(b"PFN 256", settings(256, 2, 4, -2, 5, -3), 1);
-    load(b"PFN 3", settings(3, 2, 4, -2, 5, -3), 0);
-    load(b"PFN 255", settings(255, 2, 4, -2, 5, -3), 0);
-    load(b"PFN 2, MOD 8", settings(2, 8, 4, -2, 5, -3), 1);
-    load(b"mode 2, HIP = LOP", settings(3, 2, 4, 4, 5, -3), 3);
-    load(b"HIP = OVF", settings(3, 2, 5, -2, 5, -3), 0);
-    load(b"LOP one below UNF", settings(3, 2, 4, -4, 5, -3), 5);
-    load(b"OMB 0fff", masked(settings(3, 2, 4, -2, 5, -3), 0x0fff), 0);
-    load(b"OMB 1000", masked(settings(3, 2, 4, -2, 5, -3), 0x1000), 6);
+pub fn run(rt: &impl Print) {
+    load(rt, b"PFN 2", settings(2, 2, 4, -2, 5, -3), 1);
+    load(rt, b"PFN 256", settings(256, 2, 4, -2, 5, -3), 1);
+    load(rt, b"PFN 3", settings(3, 2, 4, -2, 5, -3), 0);
+    load(rt, b"PFN 255", settings(255, 2, 4, -2, 5, -3), 0);
+    load(rt, b"PFN 2, MOD 8", settings(2, 8, 4, -2, 5, -3), 1);
+    load(rt, b"mode 2, HIP = LOP", settings(3, 2, 4, 4, 5, -3), 3);
+    load(rt, b"HIP = OVF", settings(3, 2, 5, -2, 5, -3), 0);
+    load(rt, b"LOP one below UNF", settings(3, 2, 4, -4, 5, -3), 5);
+    load(rt, b"OMB 0fff", masked(settings(3, 2, 4, -2, 5, -3), 0x0fff), 0);
+    load(rt, b"OMB 1000", masked(settings(3, 2, 4, -2, 5, -3), 0x1000), 6);
     load(
-        b"OMB 1000, LOP one below UNF",
+        rt, b"OMB 1000, LOP one below UNF",
         masked(settings(3, 2, 4, -4, 5, -3), 0x1000),
         5,
     );
     preset_load(
-        b"preset load, staged OMB f000",
+        rt, b"preset load, staged OMB f000",
         masked(settings(3, 2, 4, -2, 5, -3), 0xf000),
         0,
     );
     preset_load(
-        b"preset load, staged OMB f000, LOP one below UNF",
+        rt, b"preset load, staged OMB f000, LOP one below UNF",
         masked(settings(3, 2, 4, -4, 5, -3), 0xf000),
         5,
     );

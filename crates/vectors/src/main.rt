@@ -2,12 +2,15 @@
 // definitions of little endian and two's complement; `ok` says that writing gives them, that nothing beside them changed, and that
 // reading gives the value back. A load's `ok` says that the rule broken first is that of documents 01 and 02; a sample's, that ACC and DIR
 // are those worked out by hand from document 02's words.
+#![tactic(auto)]
+
 mod loads;
+mod out;
 mod samples;
 mod words;
 
-fn main() {
-    words::run();
-    loads::run();
-    samples::run();
+fn main(rt: HostRuntime) {
+    words::run(&rt);
+    loads::run(&rt);
+    samples::run(&rt);
 }

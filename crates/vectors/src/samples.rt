@@ -1,9 +1,9 @@
 // Crate `counter`: input 0 falls in modes 6 and 7 with the other three inputs and CE in both positions (document 02, request 4).
 use super::loads::settings;
+use super::out::{decimal, text};
 use super::words::verdict;
 use counter::state::Counter;
 use counter::{flag, state, stepping};
-use libc::STDOUT_FILENO;
 use word::{bits, bytes};
 
 // Inputs 1 to 3, as levels.
@@ -32,70 +32,70 @@ fn dir(c: Counter) -> bool {
     bits::has(c.flags, flag::DIR)
 }
 
-fn print_position(name: &[u8], on: bool) {
-    io::write_all(STDOUT_FILENO, name);
+fn print_position(rt: &impl Print, name: &[u8], on: bool) {
+    text(rt, name);
     if on {
-        io::write_all(STDOUT_FILENO, b" on, ");
+        text(rt, b" on, ");
     } else {
-        io::write_all(STDOUT_FILENO, b" off, ");
+        text(rt, b" off, ");
     }
 }
 
-fn print_bit(name: &[u8], one: bool) {
-    io::write_all(STDOUT_FILENO, name);
+fn print_bit(rt: &impl Print, name: &[u8], one: bool) {
+    text(rt, name);
     if one {
-        io::write_all(STDOUT_FILENO, b" 1");
+        text(rt, b" 1");
     } else {
-        io::write_all(STDOUT_FILENO, b" 0");
+        text(rt, b" 0");
     }
 }
 
 // By its two's complement; no row's is below 0.
-fn print_acc(acc: i32) {
+fn print_acc(rt: &impl Print, acc: i32) {
     let mut s = [0; 4];
     bytes::write_i32(&mut s, 0, acc);
-    io::print_decimal(STDOUT_FILENO, bytes::read_u32(&s, 0) as u64);
+    decimal(rt, bytes::read_u32(&s, 0) as u64);
 }
 
 // The sample in one mode, from inputs that stay but for input 0 and from inputs that all change: ACC should be as expected, and DIR 1
 // exactly if there was no count down.
-fn in_mode(mode: i16, ce: bool, new: u8, name: &[u8], expected: i32) -> bool {
+fn in_mode(rt: &impl Print, mode: i16, ce: bool, new: u8, name: &[u8], expected: i32) -> bool {
     let alone = stepping::step(before(mode, ce, new | 1), 1, 0, new as i32);
     let all = stepping::step(before(mode, ce, new ^ 15), 1, 0, new as i32);
-    io::write_all(STDOUT_FILENO, name);
-    print_acc(alone.acc);
-    print_bit(b" DIR", dir(alone));
+    text(rt, name);
+    print_acc(rt, alone.acc);
+    print_bit(rt, b" DIR", dir(alone));
     let acc = alone.acc == expected && all.acc == expected;
     acc && dir(alone) == (expected != 4) && dir(all) == (expected != 4)
 }
 
 // One row: the inputs after the fall, CE, and ACC in mode 6 and in mode 7.
-fn falls(new: u8, ce: bool, six: i32, seven: i32) {
-    io::write_all(STDOUT_FILENO, b"A falls, ");
-    print_position(b"B", new & B == B);
-    print_position(b"Z", new & Z == Z);
-    print_position(b"hold", new & HOLD == HOLD);
-    print_bit(b"CE", ce);
-    let first = in_mode(6, ce, new, b": mode 6 ACC ", six);
-    let second = in_mode(7, ce, new, b", mode 7 ACC ", seven);
-    verdict(first && second);
+fn falls(rt: &impl Print, new: u8, ce: bool, six: i32, seven: i32) {
+    text(rt, b"A falls, ");
+    print_position(rt, b"B", new & B == B);
+    print_position(rt, b"Z", new & Z == Z);
+    print_position(rt, b"hold", new & HOLD == HOLD);
+    print_bit(rt, b"CE", ce);
+    let first = in_mode(rt, 6, ce, new, b": mode 6 ACC ", six);
+    let second = in_mode(rt, 7, ce, new, b", mode 7 ACC ", seven);
+    verdict(rt, first && second);
 }
 
-pub fn run() {
-    falls(0, true, 4, 4);
-    falls(0, false, 5, 5);
-    falls(B, true, 5, 5);
-    falls(B, false, 5, 5);
-    falls(Z, true, 4, 0);
-    falls(Z, false, 5, 0);
-    falls(B | Z, true, 5, 5);
-    falls(B | Z, false, 5, 5);
-    falls(HOLD, true, 4, 5);
-    falls(HOLD, false, 5, 5);
-    falls(B | HOLD, true, 5, 5);
-    falls(B | HOLD, false, 5, 5);
-    falls(Z | HOLD, true, 4, 0);
-    falls(Z | HOLD, false, 5, 0);
-    falls(B | Z | HOLD, true, 5, 5);
-    falls(B | Z | HOLD, false, 5, 5);
+pub fn run(rt: &impl Print) {
+    falls(rt, 0, true, 4, 4);
+    falls(rt, 0, false, 5, 5);
+    falls(rt, B, true, 5, 5);
+    falls(rt, B, false, 5, 5);
+    falls(rt, Z, true, 4, 0);
+    falls(rt, Z, false, 5, 0);
+    falls(rt, B | Z, true, 5, 5);
+    falls(rt, B | Z, false, 5, 5);
+    falls(rt, HOLD, true, 4, 5);
+    falls(rt, HOLD, false, 5, 5);
+    falls(rt, B | HOLD, true, 5, 5);
+    falls(rt, B | HOLD, false, 5, 5);
+    falls(rt, Z | HOLD, true, 4, 0);
+    falls(rt, Z | HOLD, false, 5, 0);
+    falls(rt, B | Z | HOLD, true, 5, 5);
+    falls(rt, B | Z | HOLD, false, 5, 5);
 }
