@@ -11,6 +11,7 @@ use lib.ListN.{length, take, drop, replicate}
 use lib.Signed.{le_z}
 use mir.Syntax.{w32}
 use mir.Val.{SFits}
+use denote.MutBor.{MutBor}
 use denote.Ref.{Bor}
 use Rattle.word.specs.Masks.{bit}
 use Rattle.word.specs.Part.{Bytes, part}
@@ -105,45 +106,45 @@ pub hsc-event-check : (κs : _) (event event' : Bor (List ℕ)) (r : ℕ) → (h
     × (hsc.checking.hsc_event_check.Reads.Learnt κs (event, tt) r (event', tt) ≡ (r ≡ check_answer event.now))
 hsc-event-check κs event event' r = (refl, refl)
 
-pub hsc-step : (κs : _) (snapshot snapshot' event event' : Bor (List ℕ)) (r : ℕ)
+pub hsc-step : (κs : _) (snapshot snapshot' : MutBor (List ℕ)) (event event' : Bor (List ℕ)) (r : ℕ)
     → (hsc.stepping.hsc_step.Reads.Asked κs (snapshot, (event, tt)) ≡ Unit)
     × (hsc.stepping.hsc_step.Reads.Learnt κs (snapshot, (event, tt)) r (snapshot', (event', tt))
     ≡ ((r ≡ step_answer snapshot.now event.now) × (snapshot'.now ≡ step_after snapshot.now event.now)))
 hsc-step κs snapshot snapshot' event event' r = (refl, refl)
 
-pub hsc-read : (κs : _) (snapshot snapshot' : Bor (List ℕ)) (fields fields' : Bor (List ℤ)) (r : ℕ)
+pub hsc-read : (κs : _) (snapshot snapshot' : Bor (List ℕ)) (fields fields' : MutBor (List ℤ)) (r : ℕ)
     → (hsc.reading.hsc_read.Reads.Asked κs (snapshot, (fields, tt)) ≡ Unit)
     × (hsc.reading.hsc_read.Reads.Learnt κs (snapshot, (fields, tt)) r (snapshot', (fields', tt))
     ≡ ((r ≡ read_answer snapshot.now) × (fields'.now ≡ read_after snapshot.now fields.now)))
 hsc-read κs snapshot snapshot' fields fields' r = (refl, refl)
 
-pub hsc-replay : (κs : _) (image image' last last' : Bor (List ℕ)) (r : ℕ)
+pub hsc-replay : (κs : _) (image image' last last' : MutBor (List ℕ)) (r : ℕ)
     → (hsc.replaying.hsc_replay.Reads.Asked κs (image, (last, tt)) ≡ Unit)
     × (hsc.replaying.hsc_replay.Reads.Learnt κs (image, (last, tt)) r (image', (last', tt))
     ≡ ((r ≡ replay_status image.now) × ((image'.now ≡ replay_image image.now) × (last'.now ≡ replay_last image.now last.now))))
 hsc-replay κs image image' last last' r = (refl, refl)
 
-pub hsc-mend : (κs : _) (image image' patch patch' span span' : Bor (List ℕ)) (first first' r : ℕ)
+pub hsc-mend : (κs : _) (image image' : MutBor (List ℕ)) (patch patch' : Bor (List ℕ)) (span span' : MutBor (List ℕ)) (first first' r : ℕ)
     → (hsc.mending.hsc_mend.Reads.Asked κs (image, (first, (patch, (span, tt)))) ≡ Unit)
     × (hsc.mending.hsc_mend.Reads.Learnt κs (image, (first, (patch, (span, tt)))) r (image', (first', (patch', (span', tt))))
     ≡ ((r ≡ mend_status image.now first patch.now)
     × ((image'.now ≡ mend_image image.now first patch.now) × (span'.now ≡ mend_span image.now first patch.now span.now))))
 hsc-mend κs image image' patch patch' span span' first first' r = (refl, refl)
 
-pub hsc-compare : (κs : _) (first first' second second' row row' : Bor (List ℕ)) (count count' : Bor ℕ) (r : ℕ)
+pub hsc-compare : (κs : _) (first first' second second' : Bor (List ℕ)) (row row' : MutBor (List ℕ)) (count count' : MutBor ℕ) (r : ℕ)
     → (hsc.comparing.hsc_compare.Reads.Asked κs (first, (second, (row, (count, tt)))) ≡ Unit)
     × (hsc.comparing.hsc_compare.Reads.Learnt κs (first, (second, (row, (count, tt)))) r (first', (second', (row', (count', tt))))
     ≡ ((r ≡ compare_status first.now second.now row.now)
     × ((row'.now ≡ compare_row first.now second.now row.now) × (count'.now ≡ compare_count first.now second.now row.now count.now))))
 hsc-compare κs first first' second second' row row' count count' r = (refl, refl)
 
-pub hsc-rest : (κs : _) (first first' second second' part part' : Bor (List ℕ)) (r : ℕ)
+pub hsc-rest : (κs : _) (first first' second second' : Bor (List ℕ)) (part part' : MutBor (List ℕ)) (r : ℕ)
     → (hsc.comparing.hsc_rest.Reads.Asked κs (first, (second, (part, tt))) ≡ Unit)
     × (hsc.comparing.hsc_rest.Reads.Learnt κs (first, (second, (part, tt))) r (first', (second', (part', tt)))
     ≡ ((r ≡ rest_number first.now second.now) × (part'.now ≡ rest_part first.now second.now)))
 hsc-rest κs first first' second second' part part' r = (refl, refl)
 
-pub hsc-draw : (κs : _) (snapshot snapshot' events events' : Bor (List ℕ)) (row row' : Bor (List ℤ)) (r : ℕ)
+pub hsc-draw : (κs : _) (snapshot snapshot' : MutBor (List ℕ)) (events events' : Bor (List ℕ)) (row row' : MutBor (List ℤ)) (r : ℕ)
     → (hsc.drawing.hsc_draw.Reads.Asked κs (snapshot, (events, (row, tt))) ≡ Unit)
     × (hsc.drawing.hsc_draw.Reads.Learnt κs (snapshot, (events, (row, tt))) r (snapshot', (events', (row', tt)))
     ≡ ((r ≡ draw_status snapshot.now events.now row.now)
@@ -338,7 +339,7 @@ step-stamp = snapshot.Stamp.step-stamp
 pub step-over-met : {M : Type 1} → snapshot.split.step_over.Statement.statement M
 step-over-met = snapshot.split.step_over.Met.met
 
-pub step-over : (κs : _) (s s' moving moving' events events' : Bor (List ℕ)) (at at' : ℕ)
+pub step-over : (κs : _) (s s' moving moving' : MutBor (List ℕ)) (events events' : Bor (List ℕ)) (at at' : ℕ)
     → (snapshot.split.step_over.Reads.Asked κs (s, (moving, (events, (at, tt))))
     ≡ ((length s.now ≡ snapshot_size) × (length moving.now ≡ moving_size) × (at + event_size ≤ length events.now)))
     × (snapshot.split.step_over.Reads.Learnt κs (s, (moving, (events, (at, tt)))) tt (s', (moving', (events', (at', tt))))
@@ -352,7 +353,7 @@ step-over κs s s' moving moving' events events' at at' = (refl, refl)
 pub mend-met : {M : Type 1} → mending.mend.Statement.statement M
 mend-met = mending.mend.Met.met
 
-pub mend-contract : (κs : _) (image image' patch patch' : Bor (List ℕ)) (first first' : ℕ) (r : Mending)
+pub mend-contract : (κs : _) (image image' : MutBor (List ℕ)) (patch patch' : Bor (List ℕ)) (first first' : ℕ) (r : Mending)
     → (mending.mend.Reads.Asked κs (image, (first, (patch, tt))) ≡ Unit)
     × (mending.mend.Reads.Learnt κs (image, (first, (patch, tt))) r (image', (first', (patch', tt)))
     ≡ ((mend_of r ≡ mend_answer image.now first patch.now)
@@ -439,7 +440,7 @@ module _ {width : ℕ} (S : System width) (L : Laws S) (g : Shape) (image : List
 pub answer-met : {M : Type 1} → report.office.answer.Statement.statement M
 answer-met = report.office.answer.Met.met
 
-pub office-line : (κs : _) (image image' line line' : Bor (List ℕ)) (r : ℕ)
+pub office-line : (κs : _) (image image' line line' : MutBor (List ℕ)) (r : ℕ)
     → (report.office.answer.Reads.Asked κs (image, (line, tt)) ≡ (160 ≤ length line.now))
     × (report.office.answer.Reads.Learnt κs (image, (line, tt)) r (image', (line', tt))
     ≡ ((take r line'.now ≡ office_line image.now) × (r ≤ length line'.now)))

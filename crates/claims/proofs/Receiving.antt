@@ -5,6 +5,7 @@ use mathlib.Core.Bool.{true, false}
 use mathlib.Core.List.{List, ◌++◌}
 use Prim.Native.Nat.{ℕ, ◌+◌, ◌-◌, ◌*◌, ◌%◌, ◌<◌, ◌≤◌}
 use lib.ListN.{length, drop}
+use denote.MutBor.{MutBor}
 use denote.Ref.{Bor}
 use Rattle.word.specs.Part.{Bytes}
 use Rattle.refusal.specs.Refusals.{refused_in, refused, given, Placed}
@@ -28,24 +29,24 @@ use Rattle.hsc.proofs as hsc
 
 -- ---- the calls, as the checker reads their contracts for a caller; none asks anything
 
-pub hsc-reader-new : (κs : _) (reader reader' : Bor (List ℕ)) → (hsc.receiving.hsc_reader_new.Reads.Asked κs (reader, tt) ≡ Unit)
+pub hsc-reader-new : (κs : _) (reader reader' : MutBor (List ℕ)) → (hsc.receiving.hsc_reader_new.Reads.Asked κs (reader, tt) ≡ Unit)
     × (hsc.receiving.hsc_reader_new.Reads.Learnt κs (reader, tt) tt (reader', tt) ≡ (reader'.now ≡ new_reader))
 hsc-reader-new κs reader reader' = (refl, refl)
 
-pub hsc-reader-feed : (κs : _) (reader reader' chunk chunk' buffer buffer' taken taken' : Bor (List ℕ)) (r : ℕ)
+pub hsc-reader-feed : (κs : _) (reader reader' : MutBor (List ℕ)) (chunk chunk' : Bor (List ℕ)) (buffer buffer' taken taken' : MutBor (List ℕ)) (r : ℕ)
     → (hsc.receiving.hsc_reader_feed.Reads.Asked κs (reader, (chunk, (buffer, (taken, tt)))) ≡ Unit)
     × (hsc.receiving.hsc_reader_feed.Reads.Learnt κs (reader, (chunk, (buffer, (taken, tt)))) r (reader', (chunk', (buffer', (taken', tt))))
-    ≡ ((r ≡ feed_status (reader).now chunk.now buffer.now)
-    × ((reader'.now ≡ feed_reader (reader).now chunk.now buffer.now)
-    × ((buffer'.now ≡ feed_buffer (reader).now chunk.now buffer.now)
-    × (taken'.now ≡ feed_taken (reader).now chunk.now buffer.now taken.now)))))
+    ≡ ((r ≡ feed_status reader.now chunk.now buffer.now)
+    × ((reader'.now ≡ feed_reader reader.now chunk.now buffer.now)
+    × ((buffer'.now ≡ feed_buffer reader.now chunk.now buffer.now)
+    × (taken'.now ≡ feed_taken reader.now chunk.now buffer.now taken.now)))))
 hsc-reader-feed κs reader reader' chunk chunk' buffer buffer' taken taken' r = (refl, refl)
 
-pub hsc-reader-end : (κs : _) (reader reader' buffer buffer' : Bor (List ℕ)) (r : ℕ)
+pub hsc-reader-end : (κs : _) (reader reader' buffer buffer' : MutBor (List ℕ)) (r : ℕ)
     → (hsc.receiving.hsc_reader_end.Reads.Asked κs (reader, (buffer, tt)) ≡ Unit)
     × (hsc.receiving.hsc_reader_end.Reads.Learnt κs (reader, (buffer, tt)) r (reader', (buffer', tt))
-    ≡ ((r ≡ end_status (reader).now buffer.now)
-    × ((reader'.now ≡ end_reader (reader).now buffer.now) × (buffer'.now ≡ end_buffer (reader).now buffer.now))))
+    ≡ ((r ≡ end_status reader.now buffer.now)
+    × ((reader'.now ≡ end_reader reader.now buffer.now) × (buffer'.now ≡ end_buffer reader.now buffer.now))))
 hsc-reader-end κs reader reader' buffer buffer' r = (refl, refl)
 
 -- ---- every image, in every cutting

@@ -53,7 +53,10 @@ fn preset_load(rt: &impl Print, name: &[u8], s: Settings, expected: u16) {
     let d = stepping::step(c, 6, 0, 0);
     let a = d.active;
     print_error(rt, name, d.er);
-    verdict(rt, d.er == expected && (a.hip == s.hip) == (expected == 0) && a.omb == 0);
+    verdict(
+        rt,
+        d.er == expected && (a.hip == s.hip) == (expected == 0) && a.omb == 0,
+    );
 }
 
 pub fn run(rt: &impl Print) {
@@ -65,20 +68,33 @@ pub fn run(rt: &impl Print) {
     load(rt, b"mode 2, HIP = LOP", settings(3, 2, 4, 4, 5, -3), 3);
     load(rt, b"HIP = OVF", settings(3, 2, 5, -2, 5, -3), 0);
     load(rt, b"LOP one below UNF", settings(3, 2, 4, -4, 5, -3), 5);
-    load(rt, b"OMB 0fff", masked(settings(3, 2, 4, -2, 5, -3), 0x0fff), 0);
-    load(rt, b"OMB 1000", masked(settings(3, 2, 4, -2, 5, -3), 0x1000), 6);
     load(
-        rt, b"OMB 1000, LOP one below UNF",
+        rt,
+        b"OMB 0fff",
+        masked(settings(3, 2, 4, -2, 5, -3), 0x0fff),
+        0,
+    );
+    load(
+        rt,
+        b"OMB 1000",
+        masked(settings(3, 2, 4, -2, 5, -3), 0x1000),
+        6,
+    );
+    load(
+        rt,
+        b"OMB 1000, LOP one below UNF",
         masked(settings(3, 2, 4, -4, 5, -3), 0x1000),
         5,
     );
     preset_load(
-        rt, b"preset load, staged OMB f000",
+        rt,
+        b"preset load, staged OMB f000",
         masked(settings(3, 2, 4, -2, 5, -3), 0xf000),
         0,
     );
     preset_load(
-        rt, b"preset load, staged OMB f000, LOP one below UNF",
+        rt,
+        b"preset load, staged OMB f000, LOP one below UNF",
         masked(settings(3, 2, 4, -4, 5, -3), 0xf000),
         5,
     );
