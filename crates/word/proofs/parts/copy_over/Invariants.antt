@@ -1,0 +1,13 @@
+-- `word::parts::copy_over` meets its contract. The invariant: the first i bytes of `src` are written, and `dst` is as long as it was.
+-- The measure is what is left of `src`.
+use mathlib.Core.Path.{◌≡◌}
+use Prim.Native.Nat.{◌≤◌, ◌-◌}
+use lib.ListN.{length, take}
+use Rattle.word.specs.Part.{put}
+use Rattle.word.proofs.parts.copy_over.Given as goal
+
+abbrev pub invariant-loop-i : goal.invariant-loop-i
+invariant-loop-i l = (l.i ≤ length l.src) × (l.dst ≡ put l.initial.dst l.at (take l.i l.src)) × (length l.dst ≡ length l.initial.dst)
+
+abbrev pub decreases-loop-i : goal.decreases-loop-i
+decreases-loop-i l = length l.src - l.i
