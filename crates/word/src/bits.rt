@@ -3,6 +3,7 @@ ghost use Rattle.std.specs.Prelude.{◌≡◌, ◌<◌};
 ghost use Rattle.word.specs.Masks.{bit, set_bit, clear_bit, merge};
 
 // Whether bit n of w is 1.
+#[tactic(auto, unfolding(crate::specs::Masks::bit))]
 pub fn has(w: u32, n: u32) -> bool
     requires { n < 32 }
     ensures { result ≡ bit w n }
@@ -11,6 +12,7 @@ pub fn has(w: u32, n: u32) -> bool
 }
 
 // w with bit n at 1.
+#[tactic(auto, unfolding(crate::specs::Masks::set_bit))]
 pub fn set(w: u32, n: u32) -> u32
     requires { n < 32 }
     ensures { result ≡ set_bit w n }
@@ -19,6 +21,7 @@ pub fn set(w: u32, n: u32) -> u32
 }
 
 // w with bit n at 0.
+#[tactic(auto, unfolding(crate::specs::Masks::clear_bit))]
 pub fn clear(w: u32, n: u32) -> u32
     requires { n < 32 }
     ensures { result ≡ clear_bit 32 w n }
@@ -27,6 +30,7 @@ pub fn clear(w: u32, n: u32) -> u32
 }
 
 // The bits of new where the mask has a 1, those of old where it has a 0.
+#[tactic(auto, unfolding(crate::specs::Masks::merge))]
 pub fn merge(mask: u16, new: u16, old: u16) -> u16
     ensures { result ≡ merge 16 mask new old }
 {

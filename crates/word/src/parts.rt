@@ -39,6 +39,7 @@ pub fn copy_over(dst: &mut [u8], at: usize, src: &[u8])
 }
 
 // The n bytes of src from byte from over those of dst from byte at.
+#[tactic(auto, unfolding(crate::specs::Part::part))]
 pub fn copy_part(dst: &mut [u8], at: usize, src: &[u8], from: usize, n: usize)
     requires { (at + n ≤ length dst.old) × (from + n ≤ length src.now) }
     ensures { dst.new ≡ put dst.old at (part src.now from n) }
