@@ -1,10 +1,10 @@
 # The archive, the desktop program over it, and their installation.
 #
-#   make              the proved archive (rt staticlib) and target/desktop/hsc
+#   make              the proved archive (rt lib in crates/hsc_c) and target/desktop/hsc
 #   make check        the desktop program's tests
 #   make install      program, header, archive, hsc.pc and man pages below DESTDIR and PREFIX
 #   make uninstall    removes what make install put there
-#   make clean        removes what make built; what rt keeps in target/ stays
+#   make clean        removes what make built; what rt keeps in crates/*/out stays
 #
 # ARCHIVE=FILE links another archive, which is then neither proved nor built here; LDLIBS are the libraries it needs.
 
@@ -36,9 +36,10 @@ OBJECTS = $(patsubst desktop/%.c,$(BUILD)/%.o,$(wildcard desktop/*.c))
 
 all: $(PROGRAM)
 
-$(PROVED): crates.txt $(shell find crates -name '*.rt' -o -name '*.antt')
-	rt staticlib hsc
-	touch $@
+$(PROVED): crates.txt $(shell find crates -name out -prune -o \( -name '*.rt' -o -name '*.antt' \) -print)
+	cd crates/hsc_c && rt lib
+	mkdir -p $(@D)
+	cp crates/hsc_c/out/libhsc_c.a $@
 
 $(PROGRAM): $(OBJECTS) $(ARCHIVE) $(BUILD)/variables
 	$(CC) $(CFLAGS) $(LDFLAGS) -o $@ $(OBJECTS) $(ARCHIVE) $(LDLIBS)

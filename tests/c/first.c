@@ -2,7 +2,7 @@
  * causes wait, an image is replayed and mended, two traces are compared, events are drawn, two tables are told apart by their bytes,
  * an image is taken in chunks, and refusals are met. One line for each check; the first that fails ends the run with status 1.
  *
- *   rt staticlib hsc
+ *   make target/staticlib/libhsc.a
  *   cc -std=c11 -Wall -Wextra -Werror -pedantic -I include tests/c/first.c target/staticlib/libhsc.a -o target/first
  *   target/first
  */

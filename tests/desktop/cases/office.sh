@@ -6,11 +6,11 @@ echo 'one: two' > tree/crates.txt
 echo 'fn main() {}' > tree/crates/office/main.rt
 cat > bin/rt << 'END'
 #!/bin/sh
-echo "$*" >> "$COUNT"
-[ ! -e refuse ] || exit 1
-mkdir -p target/bin
-printf '#!/bin/sh\ncat > /dev/null\nprintf "%%s" "$LINE"\n' > target/bin/office
-chmod 755 target/bin/office
+echo "crates/${PWD##*/} $*" >> "$COUNT"
+[ ! -e ../../refuse ] || exit 1
+mkdir -p out
+printf '#!/bin/sh\ncat > /dev/null\nprintf "%%s" "$LINE"\n' > out/office
+chmod 755 out/office
 END
 chmod 755 bin/rt
 COUNT=$(pwd)/count
@@ -26,7 +26,7 @@ office() {
     status=0
     PATH=$(pwd)/bin:$PATH "$@" < two-events.trace > out 2> err || status=$?
     verdict "$*: exit status $status" [ "$status" -eq "$office_want" ]
-    verdict "$*: proved so often" [ "$(grep -c -x 'check office' count)" -eq "$office_times" ]
+    verdict "$*: proved so often" [ "$(grep -c -x 'crates/office run' count)" -eq "$office_times" ]
 }
 
 # age: the program is older than what is changed from now on.

@@ -58,7 +58,9 @@ if [ -n "$LDLIBS" ]; then
     skip 'the README files link the proved archive alone'
 else
     mkdir -p tree/target/bin tree/target/staticlib
-    (cd "$root" && cp -R Makefile README.md crates crates.txt desktop examples hsc.pc.in include man office "$work/readme/tree")
+    # without what rt keeps in out/, which can be some gigabytes
+    (cd "$root" && tar -cf - --exclude='crates/*/out' Makefile README.md crates crates.txt desktop examples hsc.pc.in include man office) |
+        tar -xf - -C tree
     cp "$archive" tree/target/staticlib/libhsc.a
     [ ! -x "$root/target/bin/office" ] || cp "$root/target/bin/office" tree/target/bin/office
     program tree/README.md > tree/mend_one.c
