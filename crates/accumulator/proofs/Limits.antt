@@ -1,7 +1,7 @@
 -- Counting at the limits: one more than a number below another that fits, or one less than a number above it, fits too.
 use mathlib.Core.Path.{◌≡◌}
-use mathlib.Core.Bool.{false, true, true≢false}
-use Prim.Native.Nat.{ℕ, zero, suc, ◌+◌, ◌<◌, ◌^◌}
+use mathlib.Core.Bool.{false, true≢false}
+use Prim.Native.Nat.{ℕ, zero, suc, ◌<◌, ◌^◌}
 use native.Mathlib.Omega.{arith}
 use borrow.Author.Tests.{leb-false}
 use lib.IntN.{ℤ, pos, negsuc, suc_ℤ, pred_ℤ, ◌+ℤ◌, ◌-ℤ◌, +ℤ_one, -ℤ_one}

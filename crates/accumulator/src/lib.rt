@@ -12,6 +12,7 @@ pub struct Counted {
 }
 
 // A count up. In modes 0 and 1 (`single`) ACC goes on from 0.
+#[tactic(auto, unfolding(crate::specs::Count::up))]
 pub fn up(single: bool, acc: i32, hip: i32, ovf: i32, unf: i32) -> Counted
     ensures { result ≡ up single acc hip ovf unf }
 {
@@ -42,6 +43,7 @@ pub fn up(single: bool, acc: i32, hip: i32, ovf: i32, unf: i32) -> Counted
 }
 
 // A count down.
+#[tactic(auto, unfolding(crate::specs::Count::down))]
 pub fn down(acc: i32, lop: i32, ovf: i32, unf: i32) -> Counted
     ensures { result ≡ down acc lop ovf unf }
 {
