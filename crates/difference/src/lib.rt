@@ -14,6 +14,7 @@ use word::parts::{same, shorter};
 const BLOCK_SIZE: usize = 64;
 
 // Whether the blocks of this size from byte at on are the same.
+#[tactic(auto, unfolding(word::specs::Part::part))]
 fn same_block(first: &[u8], second: &[u8], at: usize, size: usize) -> bool
     requires { (at + size ≤ length first.now) × (at + size ≤ length second.now) }
     ensures { result ≡ same_bytes (part first.now at size) (part second.now at size) }
