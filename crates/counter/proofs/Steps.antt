@@ -1,6 +1,6 @@
 -- Each event keeps a well-formed state well formed, and fresh is well formed.
 use mathlib.Core.Path.{◌≡◌, refl}
-use mathlib.Core.Bool.{true, false, false≢true}
+use mathlib.Core.Bool.{true, false≢true}
 use Prim.Native.Nat.{ℕ, ◌<◌, ◌≤◌, ◌^◌}
 use native.Mathlib.Nat.{mod-lt, le_of_suc-le-suc}
 use native.Mathlib.Omega.{arith}

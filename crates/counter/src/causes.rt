@@ -8,6 +8,7 @@ use super::{desk, flag, outputs};
 use word::bits;
 
 // Whether the cause's mask is 1.
+#[tactic(auto, unfolding(crate::specs::Interrupts::unmasked))]
 fn unmasked(flags: u32, cause: u8) -> bool
     ensures { result ≡ unmasked flags cause }
 {
@@ -21,6 +22,7 @@ fn unmasked(flags: u32, cause: u8) -> bool
 }
 
 // Whether the cause becomes an interrupt.
+#[tactic(auto, unfolding(crate::specs::Interrupts::enabled))]
 fn enabled(flags: u32, cause: u8) -> bool
     ensures { result ≡ enabled flags cause }
 {
@@ -28,6 +30,7 @@ fn enabled(flags: u32, cause: u8) -> bool
 }
 
 // LPI, HPI, UFI and OFI at 0.
+#[tactic(auto, unfolding(crate::specs::Interrupts::quiet))]
 pub fn quiet(flags: u32) -> u32
     ensures { result ≡ quiet flags }
 {
@@ -41,6 +44,7 @@ pub fn quiet(flags: u32) -> u32
 }
 
 // The cause's bit of the four at 1, the other three at 0.
+#[tactic(auto, unfolding(crate::specs::Interrupts::started))]
 fn started(cause: u8, flags: u32) -> u32
     ensures { result ≡ started cause flags }
 {
@@ -55,6 +59,7 @@ fn started(cause: u8, flags: u32) -> u32
 }
 
 // The flags after a cause is posted: UIL is 1 if it is lost.
+#[tactic(auto, unfolding(crate::specs::Interrupts::posted_flags))]
 fn posted_flags(outcome: Outcome, cause: u8, flags: u32) -> u32
     ensures { result ≡ posted_flags outcome cause flags }
 {
@@ -66,6 +71,7 @@ fn posted_flags(outcome: Outcome, cause: u8, flags: u32) -> u32
 }
 
 // The flags after a routine is done.
+#[tactic(auto, unfolding(crate::specs::Interrupts::finished_flags))]
 fn finished_flags(next: Next, flags: u32) -> u32
     ensures { result ≡ finished_flags next flags }
 {
@@ -76,6 +82,7 @@ fn finished_flags(next: Next, flags: u32) -> u32
 }
 
 // An interrupt: the desk takes it, and the flags tell what became of it.
+#[tactic(auto, unfolding(crate::specs::Interrupts::interrupt))]
 fn interrupt(c: Counter, cause: u8) -> Counter
     ensures { result ≡ interrupt cause c }
 {
@@ -90,6 +97,7 @@ fn interrupt(c: Counter, cause: u8) -> Counter
 }
 
 // The routine is done.
+#[tactic(auto, unfolding(crate::specs::Interrupts::routine_done))]
 pub fn routine_done(c: Counter) -> Counter
     ensures { result ≡ routine_done c }
 {
@@ -114,6 +122,7 @@ fn with_outputs(c: Counter, cause: u8) -> Counter
 }
 
 // A cause comes: its outputs, and an interrupt if it is enabled.
+#[tactic(auto, unfolding(crate::specs::Interrupts::raise))]
 pub fn raise(c: Counter, cause: u8) -> Counter
     ensures { result ≡ raise cause c }
 {

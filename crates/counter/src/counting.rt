@@ -6,6 +6,7 @@ use super::flag;
 use word::bits;
 
 // The flags after a count up.
+#[tactic(auto, unfolding(crate::specs::Sample::up_flags))]
 pub fn up_flags(single: bool, cause: u8, flags: u32) -> u32
     ensures { result ≡ up_flags single cause flags }
 {
@@ -22,6 +23,7 @@ pub fn up_flags(single: bool, cause: u8, flags: u32) -> u32
 }
 
 // The flags after a count down.
+#[tactic(auto, unfolding(crate::specs::Sample::down_flags))]
 pub fn down_flags(cause: u8, flags: u32) -> u32
     ensures { result ≡ down_flags cause flags }
 {

@@ -40,6 +40,7 @@ pub struct Finished {
 }
 
 // How many causes wait, by the two places.
+#[tactic(auto, unfolding(crate::specs::Desk::queued_of))]
 pub fn queued_of(first: u8, second: u8) -> u8
     ensures { result ≡ queued_of first second }
 {
@@ -113,6 +114,7 @@ fn advance(d: Desk) -> Desk
 }
 
 // A cause comes: it waits already, starts, waits or is lost.
+#[tactic(auto, unfolding(crate::specs::Desk::post))]
 pub fn post(d: Desk, cause: u8) -> Posted
     ensures { result ≡ post cause d }
 {
@@ -145,6 +147,7 @@ pub fn post(d: Desk, cause: u8) -> Posted
 }
 
 // The routine is done: the first waiting cause starts, or none runs.
+#[tactic(auto, unfolding(crate::specs::Desk::finish))]
 pub fn finish(d: Desk) -> Finished
     ensures { result ≡ finish d }
 {

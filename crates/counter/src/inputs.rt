@@ -39,6 +39,7 @@ pub fn none_rises(old: u8, new: u8) -> bool
 }
 
 // Modes 1, 3, 5 and 7 have a reset and a hold.
+#[tactic(auto, unfolding(crate::specs::Sample::has_reset))]
 pub fn has_reset(m: u8) -> bool
     ensures { result ≡ has_reset m }
 {
@@ -46,6 +47,7 @@ pub fn has_reset(m: u8) -> bool
 }
 
 // Whether the inputs reset in this mode: in mode 7 input 0 falls with 1 off and 2 on, in the others input 2 rises.
+#[tactic(auto, unfolding(crate::specs::Sample::reset_by))]
 pub fn reset_by(m: u8, old: u8, new: u8) -> bool
     ensures { result ≡ reset_by m old new }
 {
@@ -61,6 +63,7 @@ pub fn reset_by(m: u8, old: u8, new: u8) -> bool
 }
 
 // Whether an input inhibits the count in this mode: the hold, and in mode 7 input 2 as well.
+#[tactic(auto, unfolding(crate::specs::Sample::inhibited))]
 pub fn inhibited(m: u8, new: u8) -> bool
     ensures { result ≡ inhibited m new }
 {
@@ -72,6 +75,7 @@ pub fn inhibited(m: u8, new: u8) -> bool
 }
 
 // Modes 0 and 1.
+#[tactic(auto, unfolding(crate::specs::Sample::alone_up))]
 fn alone_up(old: u8, new: u8) -> Count
     ensures { result ≡ alone_up old new }
 {
@@ -83,6 +87,7 @@ fn alone_up(old: u8, new: u8) -> Count
 }
 
 // Modes 2 and 3: input 1 gives the direction.
+#[tactic(auto, unfolding(crate::specs::Sample::by_level))]
 fn by_level(old: u8, new: u8) -> Count
     ensures { result ≡ by_level old new }
 {
@@ -98,6 +103,7 @@ fn by_level(old: u8, new: u8) -> Count
 }
 
 // Modes 4 and 5: an input for each direction; both in one sample do not count.
+#[tactic(auto, unfolding(crate::specs::Sample::by_input))]
 fn by_input(old: u8, new: u8) -> Count
     ensures { result ≡ by_input old new }
 {
@@ -117,6 +123,7 @@ fn by_input(old: u8, new: u8) -> Count
 }
 
 // Modes 6 and 7: edges of input 0 while input 1 is off.
+#[tactic(auto, unfolding(crate::specs::Sample::by_phase))]
 fn by_phase(old: u8, new: u8) -> Count
     ensures { result ≡ by_phase old new }
 {
@@ -136,6 +143,7 @@ fn by_phase(old: u8, new: u8) -> Count
 }
 
 // What the mode makes of a sample.
+#[tactic(auto, unfolding(crate::specs::Sample::direction))]
 pub fn direction(m: u8, old: u8, new: u8) -> Count
     ensures { result ≡ direction m old new }
 {

@@ -33,6 +33,7 @@ fn is_short(v: i32) -> bool
     (-32768 <= v) & (v <= 32767)
 }
 
+#[tactic(auto, unfolding(crate::specs::Events::legal_staged))]
 fn legal_staged(sub: u8, v: i32) -> bool
     ensures { result ≡ legal_staged sub v }
 {
@@ -43,6 +44,7 @@ fn legal_staged(sub: u8, v: i32) -> bool
     }
 }
 
+#[tactic(auto, unfolding(crate::specs::Events::legal_device))]
 fn legal_device(sub: u8, v: i32) -> bool
     ensures { result ≡ legal_device sub v }
 {
@@ -55,6 +57,7 @@ fn legal_device(sub: u8, v: i32) -> bool
 }
 
 // Flags 0, 2 and 5 to 10 take 0 or 1.
+#[tactic(auto, unfolding(crate::specs::Events::takes_bit))]
 fn takes_bit(sub: u8) -> bool
     ensures { result ≡ takes_bit sub }
 {
@@ -65,6 +68,7 @@ fn takes_bit(sub: u8) -> bool
 }
 
 // Flags 1, 11 to 14 and 16 to 18 take 0 only.
+#[tactic(auto, unfolding(crate::specs::Events::takes_zero))]
 fn takes_zero(sub: u8) -> bool
     ensures { result ≡ takes_zero sub }
 {
@@ -74,6 +78,7 @@ fn takes_zero(sub: u8) -> bool
     }
 }
 
+#[tactic(auto, unfolding(crate::specs::Events::legal_flag))]
 fn legal_flag(sub: u8, v: i32) -> bool
     ensures { result ≡ legal_flag sub v }
 {
@@ -81,6 +86,7 @@ fn legal_flag(sub: u8, v: i32) -> bool
 }
 
 // Whether the event is legal. Where nothing else is listed, sub and value must be 0.
+#[tactic(auto, unfolding(crate::specs::Events::legal))]
 pub fn legal(kind: u8, sub: u8, v: i32) -> bool
     ensures { result ≡ legal kind sub v }
 {

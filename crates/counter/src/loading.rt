@@ -38,6 +38,7 @@ pub fn reject(c: Counter, n: u16) -> Counter
 }
 
 // A load of all settings.
+#[tactic(auto, unfolding(crate::specs::Loading::load))]
 pub fn load(c: Counter) -> Counter
     ensures { result ≡ load c }
 {
@@ -74,6 +75,7 @@ fn accept_presets(c: Counter) -> Counter
 }
 
 // A load of the presets alone; no effect if nothing is loaded.
+#[tactic(auto, unfolding(crate::specs::Loading::preset_load))]
 pub fn preset_load(c: Counter) -> Counter
     ensures { result ≡ preset_load c }
 {

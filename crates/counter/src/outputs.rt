@@ -9,6 +9,7 @@ use word::bits;
 pub const OUTPUTS_END: u16 = 0x1000;
 
 // A preset's word on the outputs in the mask, among bits 0 to 11.
+#[tactic(auto, unfolding(crate::specs::Interrupts::preset_word))]
 fn preset_word(omb: u16, word: u16, out: u16) -> u16
     ensures { result ≡ preset_word omb word out }
 {
@@ -16,6 +17,7 @@ fn preset_word(omb: u16, word: u16, out: u16) -> u16
 }
 
 // Cause 2 puts HPO, cause 1 puts LPO; another leaves the outputs.
+#[tactic(auto, unfolding(crate::specs::Interrupts::cause_word))]
 pub fn cause_word(cause: u8, omb: u16, hpo: u16, lpo: u16, out: u16) -> u16
     ensures { result ≡ cause_word cause omb hpo lpo out }
 {
@@ -27,6 +29,7 @@ pub fn cause_word(cause: u8, omb: u16, hpo: u16, lpo: u16, out: u16) -> u16
 }
 
 // The program's word on the outputs that are not in the mask.
+#[tactic(auto, unfolding(crate::specs::Events::program_word))]
 pub fn program_word(omb: u16, word: u16, out: u16) -> u16
     ensures { result ≡ program_word omb word out }
 {

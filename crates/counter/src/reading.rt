@@ -7,6 +7,7 @@ use super::{flag, rules};
 use word::bits;
 
 // A cause runs.
+#[tactic(auto, unfolding(crate::specs::Shown::uix))]
 pub fn uix(c: Counter) -> bool
     ensures { result ≡ uix c }
 {
@@ -15,6 +16,7 @@ pub fn uix(c: Counter) -> bool
 }
 
 // A cause waits.
+#[tactic(auto, unfolding(crate::specs::Shown::uip))]
 pub fn uip(c: Counter) -> bool
     ensures { result ≡ uip c }
 {
@@ -22,6 +24,7 @@ pub fn uip(c: Counter) -> bool
     !(d.queued == 0)
 }
 
+#[tactic(auto, unfolding(crate::specs::Shown::cu))]
 pub fn cu(c: Counter) -> bool
     ensures { result ≡ cu c }
 {
@@ -35,12 +38,14 @@ fn two_way(c: Counter) -> bool
     bits::has(c.flags, flag::LOADED) & !rules::up_only(rules::mode(c))
 }
 
+#[tactic(auto, unfolding(crate::specs::Shown::cd))]
 pub fn cd(c: Counter) -> bool
     ensures { result ≡ cd c }
 {
     bits::has(c.flags, flag::CE) & two_way(c)
 }
 
+#[tactic(auto, unfolding(crate::specs::Shown::hpr))]
 pub fn hpr(c: Counter) -> bool
     ensures { result ≡ hpr c }
 {
@@ -48,6 +53,7 @@ pub fn hpr(c: Counter) -> bool
     bits::has(c.flags, flag::LOADED) & (a.hip <= c.acc)
 }
 
+#[tactic(auto, unfolding(crate::specs::Shown::lpr))]
 pub fn lpr(c: Counter) -> bool
     ensures { result ≡ lpr c }
 {

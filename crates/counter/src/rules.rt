@@ -72,6 +72,7 @@ fn broken_or(passes: bool, n: u16, later: u16) -> u16
 }
 
 // The first of rules 3 to 5 that is broken, 0 if none is.
+#[tactic(auto, unfolding(crate::specs::Loading::broken_from))]
 fn limits_broken(m: u8, hip: i32, lop: i32, ovf: i32, unf: i32) -> u16
     ensures { result ≡ broken_from 3 (preset_tests m hip lop ovf unf) }
 {
@@ -81,6 +82,7 @@ fn limits_broken(m: u8, hip: i32, lop: i32, ovf: i32, unf: i32) -> u16
 }
 
 // The same for the presets of s with the mode and the limits of a.
+#[tactic(auto, unfolding(crate::specs::Loading::preset_broken))]
 pub fn preset_broken(s: Settings, a: Settings) -> u16
     ensures { result ≡ preset_broken s a }
 {

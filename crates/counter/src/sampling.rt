@@ -42,6 +42,7 @@ fn counted_down(c: Counter) -> Sampled
     }
 }
 
+#[tactic(auto, unfolding(crate::specs::Sample::counted_by))]
 fn counted_by(way: Count, c: Counter) -> Sampled
     ensures { result ≡ counted_by way c }
 {
@@ -53,6 +54,7 @@ fn counted_by(way: Count, c: Counter) -> Sampled
 }
 
 // Whether the sample resets: settings are loaded, and the inputs reset in their mode.
+#[tactic(auto, unfolding(crate::specs::Sample::resets))]
 fn resets(c: Counter, new: u8) -> bool
     ensures { result ≡ resets new c }
 {
@@ -60,6 +62,7 @@ fn resets(c: Counter, new: u8) -> bool
 }
 
 // Whether the sample may count: CE is 1, and no input inhibits it.
+#[tactic(auto, unfolding(crate::specs::Sample::may_count))]
 fn may_count(c: Counter, new: u8) -> bool
     ensures { result ≡ may_count new c }
 {
@@ -68,6 +71,7 @@ fn may_count(c: Counter, new: u8) -> bool
 }
 
 // The count that the sample makes.
+#[tactic(auto, unfolding(crate::specs::Sample::count))]
 fn count(c: Counter, new: u8) -> Count
     ensures { result ≡ count new c }
 {
@@ -93,6 +97,7 @@ fn reset(flags: u32) -> Sampled
 }
 
 // Whether it is told at once that nothing comes of the sample but its levels: no input rises, in a mode that goes by rises alone.
+#[tactic(auto, unfolding(crate::specs::Idle::idle, crate::specs::Idle::by_rises))]
 pub fn is_idle(c: Counter, new: u8) -> bool
     ensures { result ≡ idle new c }
 {
@@ -100,6 +105,7 @@ pub fn is_idle(c: Counter, new: u8) -> bool
 }
 
 // What the sample makes of ACC and the flags.
+#[tactic(auto, unfolding(crate::specs::Sample::sampled))]
 pub fn sampled(c: Counter, new: u8) -> Sampled
     ensures { result ≡ sampled new c }
 {

@@ -48,6 +48,7 @@ pub struct Sampled {
 }
 
 // A counter that was never set up.
+#[tactic(auto, unfolding(crate::specs::Parts::fresh, word::specs::Masks::set_bit))]
 pub fn fresh() -> Counter
     ensures { result ≡ fresh }
 {

@@ -29,6 +29,7 @@ fn short_of(v: i32) -> i16
 }
 
 // The settings after a staged write.
+#[tactic(auto, unfolding(crate::specs::Events::staged))]
 fn staged(s: Settings, sub: u8, v: i32) -> Settings
     ensures { result ≡ staged sub v s }
 {
@@ -63,6 +64,7 @@ fn staged(s: Settings, sub: u8, v: i32) -> Settings
 }
 
 // Kind 2.
+#[tactic(auto, unfolding(crate::specs::Events::staged_write))]
 fn staged_write(c: Counter, sub: u8, v: i32) -> Counter
     ensures { result ≡ staged_write sub v c }
 {
@@ -74,6 +76,7 @@ fn staged_write(c: Counter, sub: u8, v: i32) -> Counter
 }
 
 // The settings after a write of the programming device.
+#[tactic(auto, unfolding(crate::specs::Events::device))]
 fn device(s: Settings, sub: u8, v: i32) -> Settings
     ensures { result ≡ device sub v s }
 {
@@ -111,6 +114,7 @@ fn set_to(c: Counter, n: u32, v: i32) -> Counter
 }
 
 // Kind 3.
+#[tactic(auto, unfolding(crate::specs::Events::device_write))]
 fn device_write(c: Counter, sub: u8, v: i32) -> Counter
     ensures { result ≡ device_write sub v c }
 {
@@ -135,6 +139,7 @@ fn load_by_sp(c: Counter) -> Counter
 }
 
 // Whether the write takes SP from 0 to 1.
+#[tactic(auto, unfolding(crate::specs::Events::sp_rises))]
 fn sp_rises(c: Counter, sub: u8, v: i32) -> bool
     ensures { result ≡ sp_rises sub v c }
 {
@@ -182,6 +187,7 @@ fn enable(c: Counter) -> Counter
 }
 
 // A load at enter run, and FE 1 if it is accepted.
+#[tactic(auto, unfolding(crate::specs::Events::auto_start))]
 fn auto_start(c: Counter) -> Counter
     ensures { result ≡ auto_start c }
 {
@@ -195,6 +201,7 @@ fn auto_start(c: Counter) -> Counter
 }
 
 // Kind 8.
+#[tactic(auto, unfolding(crate::specs::Events::enter_run))]
 fn enter_run(c: Counter) -> Counter
     ensures { result ≡ enter_run c }
 {

@@ -36,6 +36,7 @@ pub fn error_formed(er: u16, flags: u32) -> bool
 }
 
 // Every setting is 0.
+#[tactic(auto, unfolding(crate::specs::WellFormed::is_none))]
 fn is_none(s: Settings) -> bool
     ensures { result ≡ is_none s }
 {
@@ -62,6 +63,7 @@ pub fn active_formed(flags: u32, active: Settings) -> bool
 }
 
 // Whether the parts are those of a well-formed state.
+#[tactic(auto, unfolding(crate::specs::WellFormed::parts_formed))]
 pub fn parts_formed(
     active: Settings,
     out: u16,

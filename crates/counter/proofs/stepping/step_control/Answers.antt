@@ -3,7 +3,7 @@ use mathlib.Core.Path.{◌≡◌}
 use mathlib.Core.Bool.{Bool}
 use Rattle.word.proofs.TwosComplement.{signed-unsigned}
 use Rattle.word.proofs.Branches.{answer-is}
-use Rattle.counter.specs.Events.{legal, control, step_control}
+use Rattle.counter.specs.Events.{legal, step_control}
 use Rattle.counter.proofs.stepping.step_control.Goals as goal
 
 pub returns-then-legal : goal.returns-then-legal
