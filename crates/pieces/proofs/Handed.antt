@@ -7,7 +7,7 @@ use lib.Dec.{eqb, ltb}
 use Rattle.word.proofs.Branches.{cond-cases}
 use Rattle.refusal.specs.Refusals.{Answer, refused_in, given}
 use Rattle.refusal.proofs.Answers.{refused-given}
-use Rattle.pieces.specs.Reading.{Reader, Fed, fed, from, reader, ends, push, due, feed}
+use Rattle.pieces.specs.Reading.{Reader, Fed, fed, from, ends, push, due, feed}
 use Rattle.pieces.specs.Traces.{Format, Phase, heading, counting, passing, broken, count, tail, counted, begun, accepted, finish, hands, traces}
 use Rattle.pieces.specs.Traces.{verdict, ended}
 
