@@ -1,5 +1,4 @@
 -- `snapshot::split::write_snapshot` meets its contract: the snapshot's bytes are copied, and the numbers beside them go over theirs.
-use borrow.Author.Rules.{rules}
 use mathlib.Core.Path.{◌≡◌, sym, ap, ◌∙◌}
 use mathlib.Core.List.{List}
 use Prim.Native.Nat.{ℕ, ◌+◌, ◌≤◌}
@@ -12,8 +11,7 @@ use Rattle.snapshot.specs.Widths.{snapshot_size}
 use Rattle.snapshot.specs.Snapshots.{encode}
 use Rattle.snapshot.specs.Split.{split_state}
 use Rattle.snapshot.proofs.RoundTrip.{length-encode}
-use Rattle.snapshot.proofs.split.write_snapshot.Statement.{statement}
-use Rattle.snapshot.proofs.split.write_snapshot.Tie as tie
+use Rattle.snapshot.proofs.split.write_snapshot.Goals as goal
 
 written : (image b m : List ℕ) (at : ℕ) {t u : List ℕ} → at + snapshot_size ≤ length image → length b ≡ snapshot_size → t ≡ put image at b
     → u ≡ put t at (encode (split_state (part t at snapshot_size) m)) → u ≡ put image at (encode (split_state b m))
@@ -25,23 +23,7 @@ written image b m at {t} {u} inside long one two =
     ∙ ap (λ (l : List ℕ). put (put image at b) at (encode (split_state l m))) here
     ∙ put-again image at b (encode (split_state b m)) room (long ∙ sym (length-encode (split_state b m)))
 
-copy-over-requires : tie.Need-copy-over-requires
-copy-over-requires c κs = search rules
-
-write-over-requires : tie.Need-write-over-requires
-write-over-requires c κs = search rules
-
-same_length : tie.Need-same-length
-same_length c = search rules
-
-returns : tie.Need-returns
+pub returns : goal.returns
 returns c =
-    let wrote = c.before.before in
-    let copied = wrote.before.before.before.before in
-    let start = copied.before.before.before.before.before in
-    let a = start.args in
-    written a.image.now a.s.now a.moving.now a.at start.requires.0 start.requires.1 copied.copy-over.ensures wrote.write-over.ensures
-
-pub write-snapshot-spec : {M : Type 1} → statement M
-write-snapshot-spec =
-    tie.close (tie.spec copy-over-requires write-over-requires same_length returns)
+    let a = c.args in
+    written a.image.now a.s.now a.moving.now a.at c.requires.0 c.requires.1 c.copy_over.ensures c.write_over.ensures

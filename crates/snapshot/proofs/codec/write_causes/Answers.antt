@@ -1,5 +1,4 @@
 -- `snapshot::codec::write_causes` meets its contract: four bytes stored side by side are one row.
-use borrow.Author.Rules.{rules}
 use mathlib.Core.Path.{◌≡◌, refl}
 use mathlib.Core.List.{List, [], ◌∷◌}
 use Prim.Native.Nat.{ℕ, ◌+◌, ◌<◌, ◌≤◌}
@@ -9,8 +8,7 @@ use Rattle.word.specs.Part.{put}
 use Rattle.word.specs.Layouts.{total, pack}
 use Rattle.word.proofs.LittleEndian.{set-byte}
 use Rattle.word.proofs.Writes.{then, end, wrote}
-use Rattle.snapshot.proofs.codec.write_causes.Statement.{statement}
-use Rattle.snapshot.proofs.codec.write_causes.Tie as tie
+use Rattle.snapshot.proofs.codec.write_causes.Goals as goal
 
 stored : (s : List ℕ) (at a b c d : ℕ) → at + 4 ≤ length s → a < 256 → b < 256 → c < 256 → d < 256
     → set (set (set (set s at a) (at + 1) b) (at + 2) c) (at + 3) d ≡ put s at (pack (1 ∷ 1 ∷ 1 ∷ 1 ∷ []) (a ∷ b ∷ c ∷ d ∷ []))
@@ -22,46 +20,8 @@ stored s at a b c d h ba bb bc bd =
     (then refl (set-byte (set (set (set s at a) (at + 1) b) (at + 2) c) (at + 3) d (simp length-set (omega arith)) bd) end)))
     h
 
-slice-write-s : tie.Need-slice-write-s
-slice-write-s c = search rules
-
-add-s : tie.Need-overflow-add-s
-add-s c = search rules
-
-slice-write-s-2 : tie.Need-slice-write-s-2
-slice-write-s-2 c = simp length-set (omega arith)
-
-add-s-2 : tie.Need-overflow-add-s-2
-add-s-2 c = search rules
-
-slice-write-s-3 : tie.Need-slice-write-s-3
-slice-write-s-3 c = simp length-set (omega arith)
-
-add-s-3 : tie.Need-overflow-add-s-3
-add-s-3 c = search rules
-
-slice-write-s-4 : tie.Need-slice-write-s-4
-slice-write-s-4 c = simp length-set (omega arith)
-
-same_length : tie.Need-same-length
-same_length c = search rules
-
-returns : tie.Need-returns
+pub returns : goal.returns
 returns c =
     let f = c.ranges in
     let a = c.args in
     stored a.s.now a.at a.levels a.running a.first a.second c.requires f.levels.fits f.running.fits f.first.fits f.second.fits
-
-pub write-causes-spec : {M : Type 1} → statement M
-write-causes-spec =
-    tie.close
-    (tie.spec
-    slice-write-s
-    add-s
-    slice-write-s-2
-    add-s-2
-    slice-write-s-3
-    add-s-3
-    slice-write-s-4
-    same_length
-    returns)
