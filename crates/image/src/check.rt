@@ -41,6 +41,7 @@ fn events_verdict(image: &[u8]) -> Verdict
 }
 
 // Refusals 1 to 5, in their order.
+#[tactic(auto, unfolding(crate::specs::Verdicts::image_verdict))]
 pub fn image_verdict(image: &[u8]) -> Verdict
     ensures { verdict_of result ≡ image_verdict image.now }
 {
@@ -79,6 +80,7 @@ fn starts_verdict(image: &[u8]) -> Verdict
 }
 
 // Replay's refusals: 1 to 5, then 6 at 0.
+#[tactic(auto, unfolding(crate::specs::Verdicts::replay_verdict))]
 pub fn replay_verdict(image: &[u8]) -> Verdict
     ensures { verdict_of result ≡ replay_verdict image.now }
 {
@@ -145,6 +147,7 @@ fn edit_verdict(image: &[u8], first: u64, patch: &[u8]) -> Verdict
 }
 
 // Mending's refusals: 1 to 5, 7, 8, then 6.
+#[tactic(auto, unfolding(crate::specs::Verdicts::mend_verdict))]
 pub fn mend_verdict(image: &[u8], first: u64, patch: &[u8]) -> Verdict
     ensures { verdict_of result ≡ mend_verdict image.now first patch.now }
 {

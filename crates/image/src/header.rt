@@ -84,6 +84,7 @@ fn offsets_broken(
 }
 
 // Refusals 1 to 3, in their order.
+#[tactic(auto, unfolding(crate::specs::Header::header_verdict))]
 pub fn verdict(image: &[u8]) -> Verdict
     ensures { verdict_of result ≡ header_verdict image.now }
 {
