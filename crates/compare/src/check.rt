@@ -21,6 +21,7 @@ fn bad_length(trace: &[u8]) -> bool
 }
 
 // Refusal 9.
+#[tactic(auto, unfolding(crate::specs::Comparing::lengths_verdict))]
 fn lengths_verdict(first: &[u8], second: &[u8]) -> Verdict
     ensures { verdict_of result ≡ lengths_verdict first.now second.now }
 {

@@ -5,6 +5,7 @@ ghost use Rattle.compare.specs.Rest.{longer, choose, past, rest_trace, rest_plac
 use refusal::Trace;
 
 // The longer of two lengths; of equal ones the first.
+#[tactic(auto, unfolding(crate::specs::Rest::longer))]
 pub fn longer(first: usize, second: usize) -> Trace
     ensures { result ≡ longer first second }
 {

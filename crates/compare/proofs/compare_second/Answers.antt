@@ -3,14 +3,10 @@
 use mathlib.Core.Path.{◌≡◌, sym, ap, ◌∙◌}
 use Prim.Native.Nat.{◌≤◌}
 use native.Mathlib.Omega.{arith}
-use lib.ListN.{length}
 use Rattle.refusal.specs.declared.Trace.TheVariants.{Second}
-use Rattle.refusal.specs.Refusals.{given, verdict_of}
+use Rattle.refusal.specs.Refusals.{verdict_of}
 use Rattle.refusal.proofs.Answers.{accepted-answer}
-use Rattle.image.specs.Editions.{base}
 use Rattle.image.specs.Rows.{events_in}
-use Rattle.image.specs.Verdicts.{events_verdict}
-use Rattle.compare.specs.Places.{differing}
 use Rattle.compare.specs.Comparing.{trace_verdict, traces_verdict, comparison_of}
 use Rattle.compare.proofs.Checked.{part-refused, part-passed}
 use Rattle.compare.proofs.Answered.{front-passed, not-compared}
