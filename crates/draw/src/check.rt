@@ -11,6 +11,7 @@ use refusal::{Refusal, Verdict, told_place};
 use snapshot::EVENT_SIZE;
 
 // Refusal 9.
+#[tactic(auto, unfolding(crate::specs::Drawing::sizes_verdict))]
 fn sizes_verdict(ed: Edition, snapshot: &[u8], events: &[u8], room: usize) -> Verdict
     ensures { verdict_of result ≡ sizes_verdict ed snapshot.now events.now room }
 {
