@@ -1,5 +1,5 @@
 -- Document 01, "The office program": the line of a replay, and that of a refusal, in ASCII.
-use Rattle.std.specs.Prelude.{cond, List, [], ◌∷◌, ◌++◌, ℕ, zero, suc, ◌+◌, ◌/◌, ◌%◌, ltb, ℤ, pos, negsuc}
+use Rattle.std.specs.Prelude.{cond, List, [], ◌∷◌, ◌++◌, ℕ, zero, suc, ◌/◌, ◌%◌, ltb, ℤ, pos, negsuc}
 use Rattle.io.specs.Digits.{hex_digit_ascii, last_digits}
 
 -- at most k decimal digits of n, with no zero in front
