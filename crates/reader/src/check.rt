@@ -17,6 +17,7 @@ use refusal::Verdict;
 use snapshot::EVENT_SIZE;
 
 // Whether a trace may be refused by this number at this place.
+#[tactic(auto, unfolding(crate::specs::WellFormed::fault))]
 fn is_fault(refused: usize, place: usize) -> bool
     ensures { result ≡ fault refused place }
 {
@@ -28,6 +29,7 @@ fn is_fault(refused: usize, place: usize) -> bool
 }
 
 // Whether all but the first so many bytes of the header, of the waiting event and of the snapshot are 0.
+#[tactic(auto, unfolding(crate::specs::WellFormed::rest_blank))]
 fn rest_blank(reader: &[u8], header: usize, pending: usize, state: usize) -> bool
     requires { (length reader.now ≡ reader_size) × (header ≤ header_size) × (pending ≤ event_size) × (state ≤ max_size) }
     ensures { result ≡ rest_blank reader.now header pending state }
@@ -50,6 +52,7 @@ fn waiting_in(reader: &[u8], taken: usize) -> usize
 }
 
 // Past a header that is not refused.
+#[tactic(auto, unfolding(crate::specs::WellFormed::opened_formed, crate::specs::WellFormed::accepts))]
 fn accepted_formed(reader: &[u8], taken: usize) -> bool
     requires { (length reader.now ≡ reader_size) × (header_size ≤ taken) × (header_verdict (header_in reader.now) ≡ given tt) }
     ensures { result ≡ opened_formed (header_in reader.now) reader.now taken }
@@ -63,6 +66,7 @@ fn accepted_formed(reader: &[u8], taken: usize) -> bool
 }
 
 // Past the header.
+#[tactic(auto, unfolding(crate::specs::WellFormed::opened_formed, crate::specs::WellFormed::accepts))]
 fn opened_formed(reader: &[u8], taken: usize) -> bool
     requires { (length reader.now ≡ reader_size) × (header_size ≤ taken) }
     ensures { result ≡ opened_formed (header_in reader.now) reader.now taken }
@@ -88,6 +92,7 @@ fn trace_formed(reader: &[u8]) -> bool
     }
 }
 
+#[tactic(auto, unfolding(crate::specs::WellFormed::formed))]
 pub fn is_formed(reader: &[u8]) -> bool
     requires { length reader.now ≡ reader_size }
     ensures { result ≡ formed reader.now }

@@ -60,6 +60,7 @@ pub fn edition_in(reader: &[u8]) -> Edition
 }
 
 // Refusals 2 and 3 of the header.
+#[tactic(auto, unfolding(word::specs::Part::part))]
 pub fn header_verdict(reader: &[u8]) -> Verdict
     requires { length reader.now ≡ reader_size }
     ensures { verdict_of result ≡ header_verdict (header_in reader.now) }
