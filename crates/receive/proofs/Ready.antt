@@ -10,7 +10,6 @@ use Rattle.word.specs.Part.{Bytes, put}
 use Rattle.word.proofs.Part.{put-whole}
 use Rattle.refusal.specs.Refusals.{Answer, refused_in, given, changed_if}
 use Rattle.refusal.proofs.Answers.{passed, none_of}
-use Rattle.pieces.specs.Reading.{reader}
 use Rattle.pieces.specs.Traces.{Phase, heading, counting, passing, broken, fresh, shown, verdict}
 use Rattle.pieces.specs.Sound.{SoundAt}
 use Rattle.pieces.proofs.Sound.{fresh-sound, feed-sound, ended-sound}
