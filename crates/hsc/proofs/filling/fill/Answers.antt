@@ -1,0 +1,9 @@
+-- `hsc::filling::fill` meets its contract: four rows copied side by side are all the numbers.
+use Rattle.hsc.proofs.Rows.{filled}
+use Rattle.hsc.proofs.filling.fill.Goals as goal
+
+pub returns : goal.returns
+returns c =
+    filled c.args.c _ _ _ _ _ _ _ _ _ c.copy_row-arg-1.given.0.1
+    c.settings_row-staged.ensures c.settings_row-active.ensures c.stored_row-stored.ensures c.shown_row-shown.ensures
+    c.copy_row.ensures c.copy_row-2.ensures c.copy_row-3.ensures c.copy_row-4.ensures
