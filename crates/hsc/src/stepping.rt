@@ -30,6 +30,7 @@ fn event_verdict(snapshot: &[u8], event: &[u8]) -> Verdict
 }
 
 // What a step comes to.
+#[tactic(auto, unfolding(crate::specs::Calls::step_verdict))]
 fn step_verdict(snapshot: &[u8], event: &[u8]) -> Verdict
     ensures { verdict_of result ≡ step_verdict snapshot.now event.now }
 {
