@@ -72,7 +72,8 @@ use Rattle.report.proofs as report
 
 -- ---- Demand 1: whatever bytes come in
 
--- Each call of the C surface is proved to meet its contract, and so to end and to do nothing undefined.
+-- Each call of the C surface is proved to meet its contract, and so to end and to do nothing undefined. The archive's symbols are calls of
+-- these, of the same contracts: `symbols-met` and `symbol-*` in `hsc_c`.
 pub calls-met : {M : Type 1} → hsc.version.hsc_version.Statement.statement M × hsc.checking.hsc_event_check.Statement.statement M
     × hsc.stepping.hsc_step.Statement.statement M × hsc.reading.hsc_read.Statement.statement M
     × hsc.replaying.hsc_replay.Statement.statement M × hsc.mending.hsc_mend.Statement.statement M

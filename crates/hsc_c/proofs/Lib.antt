@@ -1,0 +1,2 @@
+-- The archive's symbols beside the functions that they call.
+pub mod Symbols
