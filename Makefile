@@ -4,7 +4,7 @@
 #   make check        the desktop program's tests
 #   make install      program, header, archive, hsc.pc and man pages below DESTDIR and PREFIX
 #   make uninstall    removes what make install put there
-#   make clean        removes what make built; what rt keeps in crates/*/out stays
+#   make clean        removes target/desktop; the archive, and what rt keeps in crates/*/out, stay
 #
 # ARCHIVE=FILE links another archive, which is then neither proved nor built here; LDLIBS are the libraries it needs.
 

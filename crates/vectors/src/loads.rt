@@ -1,6 +1,6 @@
 // Crate `counter`: the rows of document 01's bench table that are run, and not proved, and those of document 02, request 6. Settings by
 // what a row names, the rest good.
-use super::out::{decimal, text};
+use super::printing::{decimal, text};
 use super::words::verdict;
 use counter::state::Settings;
 use counter::{flag, rules, state, stepping};

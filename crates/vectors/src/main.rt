@@ -5,7 +5,7 @@
 #![tactic(auto)]
 
 mod loads;
-mod out;
+mod printing;
 mod samples;
 mod words;
 

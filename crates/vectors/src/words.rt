@@ -1,7 +1,7 @@
 // Crate `word`: numbers of 2 and 4 bytes, alone and side by side, masks.
 ghost use Rattle.std.specs.Prelude.{◌≡◌, ◌<◌, length};
 
-use super::out::{decimal, hex, text};
+use super::printing::{decimal, hex, text};
 
 // What stands around a written number, to see that it stays.
 const GUARD: u8 = 170;
