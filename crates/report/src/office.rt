@@ -1,5 +1,6 @@
 // The office program: an image from standard input, and its line.
 ghost use Rattle.std.specs.Prelude.{◌≡◌, ◌≤◌, length, take};
+ghost use Rattle.std.specs.Io.KnownBytes.{Consumes};
 ghost use Rattle.word.specs.Part.{part};
 ghost use Rattle.snapshot.specs.Widths.{snapshot_size};
 ghost use Rattle.snapshot.specs.Snapshots.{decode};
@@ -50,9 +51,12 @@ pub fn answer(image: &mut [u8], line: &mut [u8]) -> usize
     }
 }
 
-// Reads until the buffer is full, the input ends or a read fails; answers how many bytes stand at the buffer's front.
-fn read_full(input: &mut impl Read, buf: &mut [u8]) -> usize
-    ensures { result ≤ length buf.new }
+// Reads until the buffer is full, the input ends or a read fails; answers how many bytes stand at the buffer's front. They are the input's
+// next ones, and no other byte was taken from it.
+fn read_full<R: Read>(input: &mut R, buf: &mut [u8]) -> usize
+    ensures long { length buf.new ≡ length buf.old }
+    ensures within { result ≤ length buf.new }
+    ensures front { Consumes (R.remaining input.old) (R.remaining input.new) (take result buf.new) }
 {
     let mut done = 0;
     while done < buf.len() {

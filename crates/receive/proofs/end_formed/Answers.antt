@@ -3,11 +3,10 @@ use mathlib.Core.Path.{◌≡◌, sym, ap, ◌∙◌, subst}
 use mathlib.Core.List.{List}
 use Prim.Native.Nat.{ℕ}
 use Rattle.word.specs.Part.{Bytes, put}
-use Rattle.refusal.specs.Refusals.{verdict_of}
 use Rattle.refusal.proofs.Answers.{refused-kept, accepted-answer, accepted-changed}
 use Rattle.pieces.specs.Traces.{verdict, shown}
 use Rattle.reader.specs.Formats.{format, ImageReader}
-use Rattle.reader.specs.Layout.{reader_in}
+use Rattle.reader.specs.Layout.{bytes_of, reader_in}
 use Rattle.reader.specs.WellFormed.{WellFormed}
 use Rattle.receive.specs.Calls.{ended_by}
 use Rattle.reader.proofs.Written.{Writes}
@@ -17,60 +16,42 @@ use Rattle.receive.proofs.Shown.{shown-in}
 use Rattle.receive.proofs.Ready.{end-sound}
 use Rattle.receive.proofs.end_formed.Goals as goal
 
+-- the bytes that the end leaves are those of the reader that it leaves
+module _ (b out : List ℕ) (bytes : Bytes b) (formed : WellFormed b) (left : out ≡ bytes_of (ended_by b)) where
+  back : Writes (ended_by b)
+  back = writes (ended_by b) (end-sound b bytes formed)
+
+  out-formed : WellFormed out
+  out-formed = subst WellFormed (sym left) back.formed
+
+  out-bytes : Bytes out
+  out-bytes = subst Bytes (sym left) back.bytes
+
+  out-reader : reader_in out ≡ ended_by b
+  out-reader = ap reader_in left ∙ back.back
+
 pub remembered-v-requires : goal.remembered-v-requires
-remembered-v-requires c =
-    let out : List ℕ =
-    c.finish.new.reader in
-    let b : List ℕ =
-    c.args.reader.now in
-    let bytes : Bytes b =
-    λ i. (c.slice_known-1.given i).fits in
-    let back : Writes (ended_by b) =
-    writes (ended_by b) (end-sound b bytes c.requires.0) in
-    let formed : WellFormed out =
-    subst WellFormed (sym c.finish.ensures) back.formed in
-    formed
+remembered-v-requires c = out-formed c.args.reader.now _ (λ i. (c.slice_known-1.given i).fits) c.requires.0 c.finish.ensures
 
 pub returns-in-Refused : goal.returns-in-Refused
 returns-in-Refused c =
-    let b : List ℕ =
-    c.args.reader.now in
-    let out : List ℕ =
-    c.finish.new.reader in
-    let bytes : Bytes b =
-    λ i. (c.slice_known-1.given i).fits in
-    let back : Writes (ended_by b) =
-    writes (ended_by b) (end-sound b bytes c.requires.0) in
-    let same-reader : reader_in out ≡ ended_by b =
-    ap reader_in c.finish.ensures ∙ back.back in
-    let answered : verdict_of c.remembered-v.result ≡ verdict format (ended_by b).phase =
-    c.remembered-v.ensures ∙ ap (λ (r : ImageReader). verdict format r.phase) same-reader in
-    let same = c.in-Refused.is in
-    record { answer = answered; reader = c.finish.ensures; buffer = refused-kept _ _ answered _ same _ _ }
+    let same = out-reader c.args.reader.now _ (λ i. (c.slice_known-1.given i).fits) c.requires.0 c.finish.ensures in
+    let answered = c.remembered-v.ensures ∙ ap (λ (r : ImageReader). verdict format r.phase) same in
+    record { answer = answered; reader = c.finish.ensures; buffer = refused-kept _ _ answered _ c.in-Refused.is _ _ }
 
 pub returns-in-Accepted : goal.returns-in-Accepted
 returns-in-Accepted c =
-    let b : List ℕ =
-    c.args.reader.now in
-    let out : List ℕ =
-    c.finish.new.reader in
-    let bytes : Bytes b =
-    λ i. (c.slice_known-1.given i).fits in
-    let back : Writes (ended_by b) =
-    writes (ended_by b) (end-sound b bytes c.requires.0) in
-    let same-reader : reader_in out ≡ ended_by b =
-    ap reader_in c.finish.ensures ∙ back.back in
-    let answered : verdict_of c.remembered-v.result ≡ verdict format (ended_by b).phase =
-    c.remembered-v.ensures ∙ ap (λ (r : ImageReader). verdict format r.phase) same-reader in
-    let formed : WellFormed out =
-    subst WellFormed (sym c.finish.ensures) back.formed in
-    let same = c.in-Accepted.is in
-    let runs = ended-runs format (reader_in b).phase (accepted-answer _ _ answered same) in
+    let b = c.args.reader.now in
+    let out = c.finish.new.reader in
+    let bytes : Bytes b = λ i. (c.slice_known-1.given i).fits in
+    let same = out-reader b out bytes c.requires.0 c.finish.ensures in
+    let answered = c.remembered-v.ensures ∙ ap (λ (r : ImageReader). verdict format r.phase) same in
+    let runs = ended-runs format (reader_in b).phase (accepted-answer _ _ answered c.in-Accepted.is) in
     let shows =
-    shown-in out (subst Bytes (sym c.finish.ensures) back.bytes) formed
-    (subst (λ (q : ImageReader). Runs format q.phase) (sym same-reader) runs)
-    ∙ ap (λ (q : ImageReader). shown format q.phase) same-reader in record {
+    shown-in out (out-bytes b out bytes c.requires.0 c.finish.ensures) (out-formed b out bytes c.requires.0 c.finish.ensures)
+    (subst (λ (q : ImageReader). Runs format q.phase) (sym same) runs)
+    ∙ ap (λ (q : ImageReader). shown format q.phase) same in record {
       answer = answered;
       reader = c.finish.ensures;
-      buffer = accepted-changed _ _ answered same _ (c.show.ensures ∙ ap (put c.args.buffer.now 0) shows);
+      buffer = accepted-changed _ _ answered c.in-Accepted.is _ (c.show.ensures ∙ ap (put c.args.buffer.now 0) shows);
     }

@@ -4,12 +4,12 @@ use mathlib.Core.Bool.{Bool, true, false, cond}
 use mathlib.Core.List.{List, [], ◌∷◌}
 use Prim.Native.Nat.{ℕ}
 use Rattle.word.specs.Part.{Bytes, put}
-use Rattle.refusal.specs.Refusals.{verdict_of}
 use Rattle.refusal.proofs.Answers.{refused-kept, accepted-changed}
-use Rattle.pieces.specs.Reading.{Fed}
+use Rattle.pieces.specs.Reading.{Fed, fed}
 use Rattle.pieces.specs.Traces.{verdict, shown}
 use Rattle.reader.specs.Formats.{format, ImageReader}
 use Rattle.reader.specs.Layout.{bytes_of, header_in, snapshot_in, reader_in}
+use Rattle.reader.specs.WellFormed.{WellFormed}
 use Rattle.receive.specs.Calls.{fed_by}
 use Rattle.reader.proofs.RoundTrip.{reads}
 use Rattle.pieces.proofs.Handed.{Runs, feed-runs}
@@ -21,53 +21,44 @@ where-due : (t : Bool) (buffer x y : List ℕ) → (t ≡ true → x ≡ y) → 
 where-due true buffer x y e = ap (put buffer 0) (e refl)
 where-due false buffer x y e = refl
 
+-- the bytes that the turns leave are those of the reader that they leave
+left-by : (out : List ℕ) (end : Fed ImageReader) (taken : ℕ) (holds : Bool) → Bytes out → WellFormed out → fed (reader_in out) taken holds ≡ end
+    → out ≡ bytes_of end.reader
+left-by out end taken holds bytes formed call = sym (reads out bytes formed).back ∙ ap (λ (o : Fed ImageReader). bytes_of o.reader) call
+
 pub returns-in-Refused : goal.returns-in-Refused
 returns-in-Refused c =
-    let end : Fed ImageReader =
-    fed_by c.args.reader.now c.args.chunk.now in
-    let out : List ℕ =
-    c.take_chunk-t.new.reader in
-    let call : record { reader = reader_in out; taken = c.take_chunk-t.result.taken; holds = c.take_chunk-t.result.holds } ≡ end =
-    c.take_chunk-t.ensures.call in
-    let same-reader : reader_in out ≡ end.reader =
-    ap (λ (o : Fed ImageReader). o.reader) call in
-    let answered : verdict_of c.remembered-v.result ≡ verdict format end.reader.phase =
-    c.remembered-v.ensures ∙ ap (λ (r : ImageReader). verdict format r.phase) same-reader in
-    let bytes : Bytes out =
-    λ i. (c.slice_known-4-1.given i).fits in
-    let left : out ≡ bytes_of end.reader =
-    sym (reads out bytes c.take_chunk-t.ensures.formed).back ∙ ap bytes_of same-reader in
-    let same = c.in-Refused.is in
-    record { answer = answered; reader = left; buffer = refused-kept _ _ answered _ same _ _; taken = refused-kept _ _ answered _ same _ _ }
+    let call = c.take_chunk-t.ensures.call in
+    let answered = c.remembered-v.ensures ∙ ap (λ (o : Fed ImageReader). verdict format o.reader.phase) call in
+    let same = c.in-Refused.is in record {
+      answer = answered;
+      reader = left-by _ _ _ _ (λ i. (c.slice_known-4-1.given i).fits) c.take_chunk-t.ensures.formed call;
+      buffer = refused-kept _ _ answered _ same _ _;
+      taken = refused-kept _ _ answered _ same _ _;
+    }
 
 pub returns-in-Accepted : goal.returns-in-Accepted
 returns-in-Accepted c =
-    let end : Fed ImageReader =
-    fed_by c.args.reader.now c.args.chunk.now in
-    let out : List ℕ =
-    c.take_chunk-t.new.reader in
-    let call : record { reader = reader_in out; taken = c.take_chunk-t.result.taken; holds = c.take_chunk-t.result.holds } ≡ end =
-    c.take_chunk-t.ensures.call in
-    let same-reader : reader_in out ≡ end.reader =
-    ap (λ (o : Fed ImageReader). o.reader) call in
-    let answered : verdict_of c.remembered-v.result ≡ verdict format end.reader.phase =
-    c.remembered-v.ensures ∙ ap (λ (r : ImageReader). verdict format r.phase) same-reader in
-    let bytes : Bytes out =
-    λ i. (c.slice_known-4-1.given i).fits in
-    let left : out ≡ bytes_of end.reader =
-    sym (reads out bytes c.take_chunk-t.ensures.formed).back ∙ ap bytes_of same-reader in
+    let b = c.args.reader.now in
+    let chunk = c.args.chunk.now in
+    let buffer = c.args.buffer.now in
+    let end = fed_by b chunk in
+    let out = c.take_chunk-t.new.reader in
+    let call = c.take_chunk-t.ensures.call in
+    let bytes : Bytes out = λ i. (c.slice_known-4-1.given i).fits in
+    let same-reader : reader_in out ≡ end.reader = ap (λ (o : Fed ImageReader). o.reader) call in
+    let holds = ap (λ (o : Fed ImageReader). o.holds) call in
     let due-shows : c.take_chunk-t.result.holds ≡ true → snapshot_in (header_in out) out ≡ shown format end.reader.phase =
-    λ t. let runs = feed-runs format (reader_in c.args.reader.now) c.args.chunk.now (sym (ap (λ (o : Fed ImageReader). o.holds) call) ∙ t) in
+    λ t. let runs = feed-runs format (reader_in b) chunk (sym holds ∙ t) in
     shown-in out bytes c.take_chunk-t.ensures.formed (subst (λ (r : ImageReader). Runs format r.phase) (sym same-reader) runs)
     ∙ ap (λ (r : ImageReader). shown format r.phase) same-reader in
-    let same = c.in-Accepted.is in
-    let a = c.args in
-    let buffer = a.buffer.now in record {
+    let answered = c.remembered-v.ensures ∙ ap (λ (o : Fed ImageReader). verdict format o.reader.phase) call in
+    let same = c.in-Accepted.is in record {
       answer = answered;
-      reader = left;
+      reader = left-by _ _ _ _ bytes c.take_chunk-t.ensures.formed call;
       buffer = accepted-changed _ _ answered same _
           (c.tell.ensures.buffer ∙ where-due c.take_chunk-t.result.holds buffer _ _ due-shows
-          ∙ ap (λ (x : Bool). cond x (put buffer 0 (shown format end.reader.phase)) buffer) (ap (λ (o : Fed ImageReader). o.holds) call));
+          ∙ ap (λ (x : Bool). cond x (put buffer 0 (shown format end.reader.phase)) buffer) holds);
       taken = accepted-changed _ _ answered same _
           (c.tell.ensures.taken ∙ ap (λ (o : Fed ImageReader). o.taken ∷ cond o.holds 1 0 ∷ []) call);
     }

@@ -1,9 +1,13 @@
--- `report::office::read_full`: the bytes that stand at the front are within the buffer, whose length stays.
-use Rattle.std.proofs.Common.{length, ◌-◌, ◌≤◌}
+-- `report::office::read_full`: the bytes that stand at the front are what the input gave so far, and the buffer's length stays.
+use Rattle.std.proofs.Common.{◌≡◌, ◌-◌, ◌≤◌, length, take}
+use Rattle.std.specs.Io.KnownBytes.{Consumes}
 use Rattle.report.proofs.office.read_full.Given as goal
 
 abbrev pub invariant-loop-done : goal.invariant-loop-done
-invariant-loop-done g l = l.done ≤ length l.buf
+invariant-loop-done g l =
+    (length l.buf ≡ length l.initial.buf)
+    × (l.done ≤ length l.buf)
+    × Consumes (g.R.Read.remaining l.initial.input) (g.R.Read.remaining l.input) (take l.done l.buf)
 
 abbrev pub decreases-loop-done : goal.decreases-loop-done
 decreases-loop-done g l = length l.initial.buf - l.done
