@@ -7,25 +7,25 @@ ghost use Rattle.counter.specs.Events.{flag_write, emptied, auto_start, enter_ru
 
 use super::state::{Counter, Settings};
 use super::{causes, desk, flag, legality, loading, outputs, rules, sampling};
-use word::{bits, sign};
+use word::bits;
 
 // The levels that a sample's value gives.
 pub fn levels_of(v: i32) -> u8
     ensures { result ≡ levels_of v }
 {
-    (sign::u32_of(v) % 16) as u8
+    (v.cast_unsigned() % 16) as u8
 }
 
 fn word_of(v: i32) -> u16
     ensures { result ≡ word_of v }
 {
-    (sign::u32_of(v) % 65536) as u16
+    (v.cast_unsigned() % 65536) as u16
 }
 
 fn short_of(v: i32) -> i16
     ensures { result ≡ short_of v }
 {
-    sign::i16_of(word_of(v))
+    word_of(v).cast_signed()
 }
 
 // The settings after a staged write.

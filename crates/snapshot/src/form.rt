@@ -7,7 +7,7 @@ ghost use Rattle.snapshot.specs.FormedBytes.{formed};
 use crate::places;
 use crate::settings::read_settings;
 use counter::wellformed::parts_formed;
-use word::bytes;
+use word::bytes::LittleEndian;
 
 // Whether the snapshot from byte at is well formed.
 pub fn formed(s: &[u8], at: usize) -> bool
@@ -15,9 +15,9 @@ pub fn formed(s: &[u8], at: usize) -> bool
     ensures { result ≡ formed (part s.now at snapshot_size) }
 {
     let active = read_settings(s, at + places::ACTIVE);
-    let out = bytes::read_u16(s, at + places::OUTPUTS);
-    let er = bytes::read_u16(s, at + places::ER);
-    let flags = bytes::read_u32(s, at + places::FLAGS);
+    let out = u16::read(s, at + places::OUTPUTS);
+    let er = u16::read(s, at + places::ER);
+    let flags = u32::read(s, at + places::FLAGS);
     parts_formed(
         active,
         out,

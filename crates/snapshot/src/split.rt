@@ -18,7 +18,7 @@ use crate::event::read_event;
 use crate::{SNAPSHOT_SIZE, codec, places};
 use counter::state::Counter;
 use counter::{causes, desk, legality, sampling, stepping};
-use word::bytes;
+use word::bytes::LittleEndian;
 use word::parts::{copy_over, copy_part};
 
 // The state that the two hold.
@@ -27,8 +27,8 @@ pub fn read_state(s: &[u8], moving: &[u8]) -> Counter
     ensures { result ≡ split_state s.now moving.now }
 {
     let mut c = codec::decode(s, 0);
-    c.acc = bytes::read_i32(moving, 0);
-    c.flags = bytes::read_u32(moving, places::MOVING_FLAGS);
+    c.acc = i32::read(moving, 0);
+    c.flags = u32::read(moving, places::MOVING_FLAGS);
     c.levels = moving[places::MOVING_LEVELS];
     c
 }
@@ -38,15 +38,15 @@ pub fn read_acc(s: &[u8], moving: &[u8]) -> i32
     requires { (length s.now ≡ snapshot_size) × (length moving.now ≡ moving_size) }
     ensures { result ≡ (split_state s.now moving.now).acc }
 {
-    bytes::read_i32(moving, 0)
+    i32::read(moving, 0)
 }
 
 fn write_moving(moving: &mut [u8], acc: i32, flags: u32, levels: u8)
     requires { length moving.old ≡ moving_size }
     ensures { moving.new ≡ pack moving_layout (unsigned w32 acc ∷ flags ∷ levels ∷ []) }
 {
-    bytes::write_i32(moving, 0, acc);
-    bytes::write_u32(moving, places::MOVING_FLAGS, flags);
+    acc.write(moving, 0);
+    flags.write(moving, places::MOVING_FLAGS);
     moving[places::MOVING_LEVELS] = levels;
 }
 
@@ -64,12 +64,8 @@ pub fn load_moving(s: &[u8], moving: &mut [u8])
     requires { (length s.now ≡ snapshot_size) × (length moving.old ≡ moving_size) }
     ensures { split_state s.now moving.new ≡ decode s.now }
 {
-    bytes::write_u32(moving, 0, bytes::read_u32(s, places::ACC));
-    bytes::write_u32(
-        moving,
-        places::MOVING_FLAGS,
-        bytes::read_u32(s, places::FLAGS),
-    );
+    u32::read(s, places::ACC).write(moving, 0);
+    u32::read(s, places::FLAGS).write(moving, places::MOVING_FLAGS);
     moving[places::MOVING_LEVELS] = s[places::LEVELS];
 }
 
@@ -95,12 +91,8 @@ pub fn write_over(image: &mut [u8], at: usize, moving: &[u8])
     ensures { image.new
         ≡ put image.old at (encode (split_state (part image.old at snapshot_size) moving.now)) }
 {
-    bytes::write_u32(image, at + places::ACC, bytes::read_u32(moving, 0));
-    bytes::write_u32(
-        image,
-        at + places::FLAGS,
-        bytes::read_u32(moving, places::MOVING_FLAGS),
-    );
+    u32::read(moving, 0).write(image, at + places::ACC);
+    u32::read(moving, places::MOVING_FLAGS).write(image, at + places::FLAGS);
     image[at + places::LEVELS] = moving[places::MOVING_LEVELS];
 }
 

@@ -15,5 +15,5 @@ returns c =
     let byte = byte-at s at snapshot_size c.requires in
     rw (formed-part s at)
     (c.parts_formed.ensures
-    ∙ (λ i. parts_formed (c.read_settings-active.ensures i) (c.read_u16-out.ensures i) (c.read_u16-er.ensures i) (c.read_u32-flags.ensures i)
+    ∙ (λ i. parts_formed (c.read_settings-active.ensures i) (c.read-out.ensures i) (c.read-er.ensures i) (c.read-flags.ensures i)
     (byte levels_at (omega arith) i) (byte running_at (omega arith) i) (byte first_at (omega arith) i) (byte second_at (omega arith) i)))
