@@ -5,13 +5,12 @@ ghost use Rattle.word.specs.LittleEndian.{number_at};
 ghost use Rattle.snapshot.specs.Widths.{event_size};
 ghost use Rattle.snapshot.specs.EventBytes.{legal_event};
 ghost use Rattle.refusal.specs.declared.Trace.TheVariants.{First, Second};
-ghost use Rattle.refusal.specs.Refusals.{given, in_trace, ◌and_then◌};
+ghost use Rattle.refusal.specs.Refusals.{answer_of, given, in_trace, ◌and_then◌};
 ghost use Rattle.image.specs.Editions.{base};
 ghost use Rattle.image.specs.Verdicts.{events_verdict};
 ghost use Rattle.compare.specs.Places.{differing, shared};
-ghost use Rattle.compare.specs.Comparing.{trace_verdict, traces_verdict, comparison_of};
+ghost use Rattle.compare.specs.Comparing.{trace_verdict, traces_verdict};
 
-use crate::Comparison;
 use image::edition::{Edition, legal};
 use refusal::{Refusal, Trace};
 use snapshot::EVENT_SIZE;
@@ -37,23 +36,21 @@ fn legal_beside(first: &[u8], second: &[u8], i: usize) -> bool
 }
 
 // Refusal 5 of the second's first count events, or how many of these places differ; the first trace's are legal.
-pub fn count_differences(first: &[u8], second: &[u8], count: usize) -> Comparison
+pub fn count_differences(first: &[u8], second: &[u8], count: usize) -> Result<usize, Refusal>
     requires { (trace_verdict First first.now ≡ given tt) × (count ≤ shared first.now second.now) }
-    ensures { comparison_of result ≡ (in_trace Second (events_verdict base 5 second.now 0 count)
+    ensures { answer_of result ≡ (in_trace Second (events_verdict base 5 second.now 0 count)
         and_then given (length (differing first.now second.now 0 count))) }
 {
     let mut n = 0;
-    let mut i = 0;
-    while i < count {
+    for i in 0..count {
         if !legal_beside(first, second, i) {
-            return Comparison::Refused(Refusal::TraceEvent(Trace::Second, i));
+            return Err(Refusal::TraceEvent(Trace::Second, i));
         }
         if !same_front(first, second, i) {
             n += 1;
         }
-        i += 1;
     }
-    Comparison::Listed(n)
+    Ok(n)
 }
 
 // Writes the places, of the first count, where two traces that are not refused differ, and which are n, from the row's start on.
@@ -62,6 +59,7 @@ pub fn write_differences(first: &[u8], second: &[u8], count: usize, n: usize, ro
     requires counted { (n ≡ length (differing first.now second.now 0 count)) × (n ≤ length row.old) }
     ensures { row.new ≡ put row.old 0 (differing first.now second.now 0 count) }
 {
+    // It leaves off at the last difference, and not at the last event: so no `for` over the places.
     let mut k = 0;
     let mut i = 0;
     while k < n {

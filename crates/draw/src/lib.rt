@@ -2,7 +2,7 @@
 #![tactic(auto)]
 
 ghost use Rattle.std.specs.Prelude.{◌≡◌, true, ◌*◌, length};
-ghost use Rattle.refusal.specs.Refusals.{verdict_of, given};
+ghost use Rattle.refusal.specs.Refusals.{answer_of, given};
 ghost use Rattle.replay.specs.Events.{run};
 ghost use Rattle.replay.specs.Counts.{after_each};
 ghost use Rattle.snapshot.specs.Widths.{event_size};
@@ -13,7 +13,7 @@ use crate::check::draw_verdict;
 use image::edition;
 use image::edition::{Edition, MAX_BESIDE, MAX_SIZE};
 use image::events::advance_drawing;
-use refusal::Verdict;
+use refusal::Refusal;
 
 mod check;
 
@@ -60,19 +60,15 @@ fn draw_valid(ed: Edition, snapshot: &mut [u8], events: &[u8], row: &mut [i32])
     );
 }
 
-// Takes the events over the snapshot, writes the accumulator after each into the row and the snapshot after all of them over the lent
-// one, or refuses and leaves both as they were.
-pub fn draw(ed: Edition, snapshot: &mut [u8], events: &[u8], row: &mut [i32]) -> Verdict
-    ensures answer { verdict_of result ≡ draw_verdict ed snapshot.old events.now (length row.old) }
+/// Takes the events over the snapshot: writes the accumulator after each into the row, and the
+/// snapshot after all of them over the lent one. Refuses by 9, 5 and then 6, and leaves both as they
+/// were.
+pub fn draw(ed: Edition, snapshot: &mut [u8], events: &[u8], row: &mut [i32]) -> Result<(), Refusal>
+    ensures answer { answer_of result ≡ draw_verdict ed snapshot.old events.now (length row.old) }
     ensures snapshot { snapshot.new ≡ draw_snapshot ed snapshot.old events.now (length row.old) }
     ensures row { row.new ≡ draw_row ed snapshot.old events.now row.old }
 {
-    let v = draw_verdict(ed, snapshot, events, row.len());
-    match v {
-        Verdict::Refused(_) => v,
-        Verdict::Accepted => {
-            draw_valid(ed, snapshot, events, row);
-            v
-        }
-    }
+    draw_verdict(ed, snapshot, events, row.len())?;
+    draw_valid(ed, snapshot, events, row);
+    Ok(())
 }

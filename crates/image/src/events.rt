@@ -9,19 +9,17 @@ ghost use Rattle.image.specs.Editions.{system, acc_of};
 use crate::edition::{Edition, acc, legal, step};
 use snapshot::EVENT_SIZE;
 
-// The first illegal event of the count events from byte at on, or count.
+/// The first illegal event of the `count` events from byte `at` on, or `count`.
 pub fn first_illegal(ed: Edition, events: &[u8], at: usize, count: usize) -> usize
     requires { at + count * event_size ≤ length events.now }
     ensures { result ≡ first_illegal (system ed) events.now at 0 count }
 {
-    let mut i = 0;
-    while i < count {
+    for i in 0..count {
         if !legal(ed, events, at + i * EVENT_SIZE) {
             return i;
         }
-        i += 1;
     }
-    i
+    count
 }
 
 // Takes the count events from byte at on over the state, and writes the accumulator after each into the row, as far as that goes. The

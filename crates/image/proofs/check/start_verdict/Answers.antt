@@ -17,8 +17,8 @@ formed-requires c =
     image-passed _ c.requires.0 in
     rw c.snapshot_at.ensures (snapshot-inside _ passes _ (omega (arith, c.requires.1)) c.edition.ensures)
 
-pub returns-then-formed : goal.returns-then-formed
-returns-then-formed c = start-passes _ _ c.edition.ensures _ _ c.snapshot_at.ensures (sym c.formed.ensures ∙ c.if-formed.true)
+pub returns-then-not-formed : goal.returns-then-not-formed
+returns-then-not-formed c = start-refused _ _ c.edition.ensures _ _ c.snapshot_at.ensures (sym c.formed.ensures ∙ c.if-not-formed.true)
 
-pub returns-else-formed : goal.returns-else-formed
-returns-else-formed c = start-refused _ _ c.edition.ensures _ _ c.snapshot_at.ensures (sym c.formed.ensures ∙ c.if-formed.false)
+pub returns : goal.returns
+returns c = start-passes _ _ c.edition.ensures _ _ c.snapshot_at.ensures (sym c.formed.ensures ∙ c.if-not-formed.false)

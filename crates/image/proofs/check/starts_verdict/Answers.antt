@@ -17,5 +17,5 @@ starts-requires c =
     image-passed _ c.requires in
     rw c.snapshot_at.ensures (snapshot-inside _ passes 0 (omega arith) c.edition.ensures)
 
-pub returns-then-starts : goal.returns-then-starts
-returns-then-starts c = starts-passes _ _ c.edition.ensures _ c.snapshot_at.ensures (sym c.starts.ensures ∙ c.if-starts.true)
+pub returns : goal.returns
+returns c = starts-passes _ _ c.edition.ensures _ c.snapshot_at.ensures (sym c.starts.ensures ∙ c.if-not-starts.false)
