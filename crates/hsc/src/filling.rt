@@ -3,7 +3,6 @@ ghost use Rattle.std.specs.Prelude.{◌≡◌, ◌+◌, ◌≤◌, pos, length};
 ghost use Rattle.word.specs.Part.{put};
 ghost use Rattle.hsc.specs.Fields.{settings_fields, stored_fields, shown_fields, fields_of};
 
-use counter::reading;
 use counter::state::{Counter, Settings};
 use word::sign;
 
@@ -54,12 +53,12 @@ fn shown_row(c: Counter) -> [i32; 6]
     ensures { result ≡ shown_fields c }
 {
     [
-        reading::uix(c) as i32,
-        reading::uip(c) as i32,
-        reading::cu(c) as i32,
-        reading::cd(c) as i32,
-        reading::hpr(c) as i32,
-        reading::lpr(c) as i32,
+        c.uix() as i32,
+        c.uip() as i32,
+        c.cu() as i32,
+        c.cd() as i32,
+        c.hpr() as i32,
+        c.lpr() as i32,
     ]
 }
 
