@@ -1,4 +1,4 @@
--- `image::check::patch_verdict` meets its contract: the tests are those of the definition, in its order.
+-- `image::patch::patch_verdict` meets its contract: the tests are those of the definition, in its order.
 use mathlib.Core.Path.{◌≡◌, sym, ap, ◌∙◌}
 use mathlib.Core.Bool.{Bool, not, ◌||◌}
 use Prim.Native.Nat.{◌%◌}
@@ -7,7 +7,7 @@ use lib.ListN.{length}
 use Rattle.snapshot.specs.Widths.{event_size}
 use Rattle.image.specs.Verdicts.{patch_broken, patch_verdict}
 use Rattle.image.proofs.Accepted.{found, not-found}
-use Rattle.image.proofs.check.patch_verdict.Goals as goal
+use Rattle.image.proofs.patch.patch_verdict.Goals as goal
 
 pub returns-then-patch-beyond : goal.returns-then-patch-beyond
 unfolding patch_verdict
