@@ -1,4 +1,4 @@
-// Drawing (document 02, request 2): the accumulator after each of many events into a lent row, and the snapshot after all of them.
+//! Drawing (document 02, request 2): the accumulator after each of many events into a lent row, and the snapshot after all of them.
 #![tactic(auto)]
 
 ghost use Rattle.std.specs.Prelude.{◌≡◌, true, ◌*◌, length};
