@@ -8,8 +8,7 @@ ghost use Rattle.image.specs.Verdicts.{length_verdict, events_verdict, image_ver
 ghost use Rattle.image.specs.Verdicts.{starts_verdict, replay_verdict};
 ghost use Rattle.image.specs.Verdicts.{patch_verdict, start_verdict, edit_verdict, mend_verdict};
 
-use crate::edition::Edition;
-use crate::events::first_illegal;
+use crate::edition::{Edition, first_illegal};
 use crate::header::{number, snapshot_place};
 use crate::{edition, header};
 use refusal::Refusal;

@@ -3,6 +3,5 @@
 
 pub mod check;
 pub mod edition;
-pub mod events;
 pub mod header;
-pub mod table;
+pub mod running;
