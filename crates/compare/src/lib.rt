@@ -11,7 +11,6 @@ use crate::check::{first_verdict, trace_verdict};
 use crate::places::{count_differences, write_differences};
 use refusal::{Refusal, Trace};
 use snapshot::EVENT_SIZE;
-use word::parts::shorter;
 
 mod check;
 mod places;
@@ -43,7 +42,7 @@ fn compare_second(first: &[u8], second: &[u8], row: &mut [u32]) -> Result<usize,
     ensures answer { answer_of result ≡ compare_answer first.now second.now (length row.old) }
     ensures row { row.new ≡ compare_row first.now second.now row.old }
 {
-    let count = shorter(first.len() / EVENT_SIZE, second.len() / EVENT_SIZE);
+    let count = (first.len() / EVENT_SIZE).min(second.len() / EVENT_SIZE);
     let n = count_differences(first, second, count)?;
     trace_verdict(Trace::Second, second, count)?;
     list(first, second, count, n, row)

@@ -14,14 +14,14 @@ ghost use Rattle.compare.specs.Comparing.{trace_verdict, traces_verdict};
 use image::edition::{Edition, legal};
 use refusal::{Refusal, Trace};
 use snapshot::EVENT_SIZE;
-use word::bytes::read_u64;
+use word::bytes::LittleEndian;
 
 // Whether the events at place i have the same 8 bytes before their stamps: of legal ones, the same kind, sub and value.
 fn same_front(first: &[u8], second: &[u8], i: usize) -> bool
     requires { i < shared first.now second.now }
     ensures { result ≡ eqb (number_at first.now (i * event_size) 8) (number_at second.now (i * event_size) 8) }
 {
-    read_u64(first, i * EVENT_SIZE) == read_u64(second, i * EVENT_SIZE)
+    u64::read(first, i * EVENT_SIZE) == u64::read(second, i * EVENT_SIZE)
 }
 
 // Whether event i of the second trace is legal: it is where it has the bytes of the first's, which is.

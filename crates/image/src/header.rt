@@ -11,7 +11,7 @@ use crate::edition::{Edition, edition_at};
 use refusal::Refusal;
 use replay::trace::Trace;
 use snapshot::EVENT_SIZE;
-use word::bytes;
+use word::bytes::LittleEndian;
 
 /// The bytes of the header.
 pub const SIZE: usize = 24;
@@ -44,7 +44,7 @@ pub fn number(image: &[u8], at: usize) -> usize
     requires { at + 4 ≤ length image.now }
     ensures { result ≡ number_at image.now at 4 }
 {
-    bytes::read_u32(image, at) as usize
+    u32::read(image, at) as usize
 }
 
 /// The edition that the header tells.

@@ -8,7 +8,7 @@ ghost use Rattle.snapshot.specs.Widths.{snapshot_size};
 
 use std::marker::Model;
 
-use counter::state::fresh;
+use counter::state::Counter;
 use difference::first_difference;
 use replay::machine::Machine;
 use snapshot::{EVENT_SIZE, MOVING_SIZE, SNAPSHOT_SIZE, codec, event, form, split};
@@ -77,7 +77,7 @@ impl Machine for Running {
     }
 
     fn begin(image: &mut [u8], at: usize) {
-        codec::encode(fresh(), image, at);
+        codec::encode(Counter::fresh(), image, at);
     }
 
     fn load(image: &[u8], at: usize) -> Self {

@@ -3,7 +3,7 @@ ghost use Rattle.std.specs.Prelude.{◌++◌, ◌+◌, ◌≤◌, ◌<◌, ◌^�
 ghost use Rattle.report.specs.Appended.{Appended};
 ghost use Rattle.report.specs.Line.{decimal, signed_decimal, hexadecimal};
 
-use word::{parts, sign};
+use word::parts;
 
 // Appends a piece, and answers the next place.
 pub fn append(s: &mut [u8], at: usize, piece: &[u8]) -> usize
@@ -40,9 +40,9 @@ pub fn append_signed(s: &mut [u8], at: usize, word: &[u8], v: i32) -> usize
 {
     if v < 0 {
         let next = append(s, at, word);
-        append_decimal(s, next, b"-", (sign::u32_of(!v) as u64) + 1)
+        append_decimal(s, next, b"-", ((!v).cast_unsigned() as u64) + 1)
     } else {
-        append_decimal(s, at, word, sign::u32_of(v) as u64)
+        append_decimal(s, at, word, v.cast_unsigned() as u64)
     }
 }
 

@@ -11,7 +11,7 @@ use crate::places;
 use crate::settings::{read_settings, write_settings};
 use counter::desk::{Desk, queued_of};
 use counter::state::Counter;
-use word::bytes;
+use word::bytes::LittleEndian;
 
 // The desk in the snapshot from byte at.
 fn read_desk(s: &[u8], at: usize) -> Desk
@@ -38,10 +38,10 @@ pub fn decode(s: &[u8], at: usize) -> Counter
     Counter {
         staged: read_settings(s, at),
         active: read_settings(s, at + places::ACTIVE),
-        acc: bytes::read_i32(s, at + places::ACC),
-        out: bytes::read_u16(s, at + places::OUTPUTS),
-        er: bytes::read_u16(s, at + places::ER),
-        flags: bytes::read_u32(s, at + places::FLAGS),
+        acc: i32::read(s, at + places::ACC),
+        out: u16::read(s, at + places::OUTPUTS),
+        er: u16::read(s, at + places::ER),
+        flags: u32::read(s, at + places::FLAGS),
         levels,
         desk,
     }
@@ -52,10 +52,10 @@ fn write_words(s: &mut [u8], at: usize, acc: i32, out: u16, er: u16, flags: u32)
     requires { at + 12 ≤ length s.old }
     ensures { s.new ≡ put s.old at (pack (4 ∷ 2 ∷ 2 ∷ 4 ∷ []) (unsigned w32 acc ∷ out ∷ er ∷ flags ∷ [])) }
 {
-    bytes::write_i32(s, at, acc);
-    bytes::write_u16(s, at + 4, out);
-    bytes::write_u16(s, at + 6, er);
-    bytes::write_u32(s, at + 8, flags);
+    acc.write(s, at);
+    out.write(s, at + 4);
+    er.write(s, at + 6);
+    flags.write(s, at + 8);
 }
 
 // Writes the levels, the running cause and the two waiting ones.

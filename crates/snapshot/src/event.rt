@@ -6,7 +6,7 @@ ghost use Rattle.snapshot.specs.EventBytes.{event_of, reserved_zero, legal_event
 
 use crate::places;
 use counter::legality;
-use word::bytes;
+use word::bytes::LittleEndian;
 
 // What an event asks for; its stamp is left out.
 #[derive(Clone, Copy)]
@@ -24,7 +24,7 @@ pub fn read_event(s: &[u8], at: usize) -> Event
     Event {
         kind: s[at],
         sub: s[at + places::SUB],
-        value: bytes::read_i32(s, at + places::VALUE),
+        value: i32::read(s, at + places::VALUE),
     }
 }
 
@@ -33,7 +33,7 @@ pub fn reserved_zero(s: &[u8], at: usize) -> bool
     requires { at + event_size ≤ length s.now }
     ensures { result ≡ reserved_zero (part s.now at event_size) }
 {
-    bytes::read_u16(s, at + places::ZERO) == 0
+    u16::read(s, at + places::ZERO) == 0
 }
 
 // Whether the event from byte at is legal; nearly all are samples, so those are told first.

@@ -9,7 +9,7 @@ ghost use Rattle.snapshot.specs.Snapshots.{settings_at, settings_row};
 
 use crate::places;
 use counter::state::Settings;
-use word::bytes;
+use word::bytes::LittleEndian;
 
 // The settings from byte at.
 pub fn read_settings(s: &[u8], at: usize) -> Settings
@@ -17,15 +17,15 @@ pub fn read_settings(s: &[u8], at: usize) -> Settings
     ensures { result ≡ settings_at s.now at }
 {
     Settings {
-        pfn: bytes::read_i16(s, at),
-        mode: bytes::read_i16(s, at + places::MODE),
-        hip: bytes::read_i32(s, at + places::HIP),
-        lop: bytes::read_i32(s, at + places::LOP),
-        ovf: bytes::read_i32(s, at + places::OVF),
-        unf: bytes::read_i32(s, at + places::UNF),
-        omb: bytes::read_u16(s, at + places::OMB),
-        hpo: bytes::read_u16(s, at + places::HPO),
-        lpo: bytes::read_u16(s, at + places::LPO),
+        pfn: i16::read(s, at),
+        mode: i16::read(s, at + places::MODE),
+        hip: i32::read(s, at + places::HIP),
+        lop: i32::read(s, at + places::LOP),
+        ovf: i32::read(s, at + places::OVF),
+        unf: i32::read(s, at + places::UNF),
+        omb: u16::read(s, at + places::OMB),
+        hpo: u16::read(s, at + places::HPO),
+        lpo: u16::read(s, at + places::LPO),
     }
 }
 
@@ -34,8 +34,8 @@ fn write_modes(s: &mut [u8], at: usize, pfn: i16, mode: i16)
     requires { at + 4 ≤ length s.old }
     ensures { s.new ≡ put s.old at (pack (2 ∷ 2 ∷ []) (unsigned w16 pfn ∷ unsigned w16 mode ∷ [])) }
 {
-    bytes::write_i16(s, at, pfn);
-    bytes::write_i16(s, at + 2, mode);
+    pfn.write(s, at);
+    mode.write(s, at + 2);
 }
 
 // Writes HIP, LOP, OVF and UNF.
@@ -44,10 +44,10 @@ fn write_limits(s: &mut [u8], at: usize, hip: i32, lop: i32, ovf: i32, unf: i32)
     ensures { s.new
         ≡ put s.old at (pack (4 ∷ 4 ∷ 4 ∷ 4 ∷ []) (unsigned w32 hip ∷ unsigned w32 lop ∷ unsigned w32 ovf ∷ unsigned w32 unf ∷ [])) }
 {
-    bytes::write_i32(s, at, hip);
-    bytes::write_i32(s, at + 4, lop);
-    bytes::write_i32(s, at + 8, ovf);
-    bytes::write_i32(s, at + 12, unf);
+    hip.write(s, at);
+    lop.write(s, at + 4);
+    ovf.write(s, at + 8);
+    unf.write(s, at + 12);
 }
 
 // Writes OMB, HPO and LPO.
@@ -55,9 +55,9 @@ fn write_outputs(s: &mut [u8], at: usize, omb: u16, hpo: u16, lpo: u16)
     requires { at + 6 ≤ length s.old }
     ensures { s.new ≡ put s.old at (pack (2 ∷ 2 ∷ 2 ∷ []) (omb ∷ hpo ∷ lpo ∷ [])) }
 {
-    bytes::write_u16(s, at, omb);
-    bytes::write_u16(s, at + 2, hpo);
-    bytes::write_u16(s, at + 4, lpo);
+    omb.write(s, at);
+    hpo.write(s, at + 2);
+    lpo.write(s, at + 4);
 }
 
 // Writes the settings from byte at.

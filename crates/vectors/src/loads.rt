@@ -2,9 +2,9 @@
 // what a row names, the rest good.
 use super::printing::{decimal, text};
 use super::words::verdict;
-use counter::state::Settings;
-use counter::{flag, rules, state, stepping};
-use word::bits;
+use counter::flag;
+use counter::rules::Rule;
+use counter::state::{Counter, Settings};
 
 pub fn settings(pfn: i16, mode: i16, hip: i32, lop: i32, ovf: i32, unf: i32) -> Settings {
     Settings {
@@ -22,9 +22,7 @@ pub fn settings(pfn: i16, mode: i16, hip: i32, lop: i32, ovf: i32, unf: i32) -> 
 
 // The same settings with a mask.
 fn masked(s: Settings, omb: u16) -> Settings {
-    let mut t = s;
-    t.omb = omb;
-    t
+    Settings { omb, ..s }
 }
 
 fn print_error(rt: &impl Print, name: &[u8], broken: u16) {
@@ -37,25 +35,32 @@ fn print_error(rt: &impl Print, name: &[u8], broken: u16) {
     }
 }
 
-// One load: its name, and the rule that it should break, 0 for none.
+// ER after a check: the number of the rule that it found broken, 0 if it found none.
+fn er_of(checked: Result<(), Rule>) -> u16 {
+    match checked {
+        Ok(()) => 0,
+        Err(rule) => u16::from(rule),
+    }
+}
+
+// One load: its name, and the number of the rule that it should break, 0 for none.
 fn load(rt: &impl Print, name: &[u8], s: Settings, expected: u16) {
-    let broken = rules::first_broken(s);
+    let broken = er_of(s.check());
     print_error(rt, name, broken);
     verdict(rt, broken == expected);
 }
 
 // One preset load of these settings over good ones with HIP 3: the staged HIP should be active after it exactly if no rule is broken.
 fn preset_load(rt: &impl Print, name: &[u8], s: Settings, expected: u16) {
-    let mut c = state::fresh();
+    let mut c = Counter::fresh();
     c.staged = s;
     c.active = settings(3, 2, 3, -2, 5, -3);
-    c.flags = bits::set(c.flags, flag::LOADED);
-    let d = stepping::step(c, 6, 0, 0);
-    let a = d.active;
-    print_error(rt, name, d.er);
+    c.set(flag::LOADED);
+    c.step(6, 0, 0);
+    print_error(rt, name, c.er);
     verdict(
         rt,
-        d.er == expected && (a.hip == s.hip) == (expected == 0) && a.omb == 0,
+        c.er == expected && (c.active.hip == s.hip) == (expected == 0) && c.active.omb == 0,
     );
 }
 

@@ -2,9 +2,9 @@
 use super::loads::settings;
 use super::printing::{decimal, text};
 use super::words::verdict;
+use counter::flag;
 use counter::state::Counter;
-use counter::{flag, state, stepping};
-use word::{bits, bytes};
+use word::bytes;
 
 // Inputs 1 to 3, as levels.
 const B: u8 = 2;
@@ -15,21 +15,23 @@ const HOLD: u8 = 8;
 
 // The counter before each sample: at 5 with DIR 1, far from presets and limits.
 fn before(mode: i16, ce: bool, levels: u8) -> Counter {
-    let mut c = state::fresh();
+    let mut c = Counter::fresh();
     c.active = settings(3, mode, 50, -50, 60, -60);
     c.acc = 5;
     c.levels = levels;
-    let flags = bits::set(bits::set(c.flags, flag::LOADED), flag::DIR);
+    c.set(flag::LOADED);
+    c.set(flag::DIR);
     if ce {
-        c.flags = bits::set(flags, flag::CE);
-    } else {
-        c.flags = flags;
+        c.set(flag::CE);
     }
     c
 }
 
-fn dir(c: Counter) -> bool {
-    bits::has(c.flags, flag::DIR)
+// The counter after a sample.
+fn after(c: Counter, new: u8) -> Counter {
+    let mut d = c;
+    d.step(1, 0, new as i32);
+    d
 }
 
 fn print_position(rt: &impl Print, name: &[u8], on: bool) {
@@ -60,13 +62,13 @@ fn print_acc(rt: &impl Print, acc: i32) {
 // The sample in one mode, from inputs that stay but for input 0 and from inputs that all change: ACC should be as expected, and DIR 1
 // exactly if there was no count down.
 fn in_mode(rt: &impl Print, mode: i16, ce: bool, new: u8, name: &[u8], expected: i32) -> bool {
-    let alone = stepping::step(before(mode, ce, new | 1), 1, 0, new as i32);
-    let all = stepping::step(before(mode, ce, new ^ 15), 1, 0, new as i32);
+    let alone = after(before(mode, ce, new | 1), new);
+    let all = after(before(mode, ce, new ^ 15), new);
     text(rt, name);
     print_acc(rt, alone.acc);
-    print_bit(rt, b" DIR", dir(alone));
+    print_bit(rt, b" DIR", alone.has(flag::DIR));
     let acc = alone.acc == expected && all.acc == expected;
-    acc && dir(alone) == (expected != 4) && dir(all) == (expected != 4)
+    acc && alone.has(flag::DIR) == (expected != 4) && all.has(flag::DIR) == (expected != 4)
 }
 
 // One row: the inputs after the fall, CE, and ACC in mode 6 and in mode 7.

@@ -2,7 +2,8 @@
 use mathlib.Core.Path.{◌≡◌, refl, sym, ap, ◌∙◌}
 use mathlib.Core.List.{List, [], ◌∷◌}
 use Prim.Native.Nat.{ℕ, zero, suc, ◌+◌, ◌*◌, ◌/◌, ◌%◌, ◌^◌, ◌<◌, ◌≤◌}
-use native.Mathlib.Nat.{pow-suc, mod-lt, zero-add, add-zero, suc-add}
+use native.Mathlib.Nat.{pow-suc, mod-lt, zero-add, add-zero, suc-add, add_assoc, div-div-eq-div-mul}
+use Rattle.std.specs.Int.{w16, w32, w64, to_le_bytes, from_le_bytes}
 use native.Mathlib.Omega.{arith}
 use lib.Dec.{lit<}
 use lib.ListN.{length, get_or, set}
@@ -50,6 +51,28 @@ to_bytes-of_bytes (x ∷ xs) b =
     let rest : (x + 256 * of_bytes xs) / 256 ≡ of_bytes xs = omega arith in
     rw (first, rest, to_bytes-of_bytes xs (λ i. b (suc i)))
 
+-- ---- the language's own bytes of a number
+
+pub bytes-2 : (n : ℕ) → to_le_bytes w16 n ≡ to_bytes 2 n
+unfolding to_bytes
+bytes-2 n = refl
+
+pub bytes-4 : (n : ℕ) → to_le_bytes w32 n ≡ to_bytes 4 n
+unfolding to_bytes
+bytes-4 n = rw (div-div-eq-div-mul n 256 256, div-div-eq-div-mul n (256 * 256) 256)
+
+pub bytes-8 : (n : ℕ) → to_le_bytes w64 n ≡ to_bytes 8 n
+unfolding to_bytes
+bytes-8 n =
+    rw (
+      div-div-eq-div-mul n 256 256,
+      div-div-eq-div-mul n (256 ^ 2) 256,
+      div-div-eq-div-mul n (256 ^ 3) 256,
+      div-div-eq-div-mul n (256 ^ 4) 256,
+      div-div-eq-div-mul n (256 ^ 5) 256,
+      div-div-eq-div-mul n (256 ^ 6) 256,
+    )
+
 -- ---- a number at an offset
 
 pub number_at-lt : (s : List ℕ) (at k : ℕ) → Bytes s → at + k ≤ length s → number_at s at k < 256 ^ k
@@ -85,3 +108,25 @@ unfolding to_bytes
 set-byte s at v h b =
     let same : v % 256 ≡ v = omega arith in
     rw same (set-put s at v h)
+
+-- the number in two bytes, in four and in eight, as the language reads it
+pub number_at-2 : (s : List ℕ) (at : ℕ) → at + 2 ≤ length s → from_le_bytes w16 (get_or s at 0 ∷ get_or s (at + 1) 0 ∷ []) ≡ number_at s at 2
+number_at-2 s at h =
+    let low = number_at-one s at (omega arith) in
+    let high = number_at-one s (at + 1) (omega arith) in
+    omega (arith, low, high, number_at-add s at 1 1 (omega arith))
+
+pub number_at-4 : (s : List ℕ) (at : ℕ) → at + 4 ≤ length s
+    → from_le_bytes w32 (get_or s at 0 ∷ get_or s (at + 1) 0 ∷ get_or s (at + 2) 0 ∷ get_or s (at + 3) 0 ∷ []) ≡ number_at s at 4
+number_at-4 s at h =
+    let low = number_at-2 s at (omega arith) in
+    let high = rw (add_assoc at 2 1) at (number_at-2 s (at + 2) (omega arith)) in
+    omega (arith, low, high, number_at-add s at 2 2 (omega arith))
+
+pub number_at-8 : (s : List ℕ) (at : ℕ) → at + 8 ≤ length s
+    → from_le_bytes w64 (get_or s at 0 ∷ get_or s (at + 1) 0 ∷ get_or s (at + 2) 0 ∷ get_or s (at + 3) 0
+    ∷ get_or s (at + 4) 0 ∷ get_or s (at + 5) 0 ∷ get_or s (at + 6) 0 ∷ get_or s (at + 7) 0 ∷ []) ≡ number_at s at 8
+number_at-8 s at h =
+    let low = number_at-4 s at (omega arith) in
+    let high = rw (add_assoc at 4 1, add_assoc at 4 2, add_assoc at 4 3) at (number_at-4 s (at + 4) (omega arith)) in
+    omega (arith, low, high, number_at-add s at 4 4 (omega arith))

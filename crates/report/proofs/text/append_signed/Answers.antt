@@ -23,12 +23,12 @@ append_decimal-requires c =
     rw text (begin c.args.word.now (sized ∷ []) (rw text at c.requires)) in
     let worded : Standing (sized ∷ []) c.append-next.new.s c.append-next.result =
     next begun c.append-next.ensures in
-    rw c.u32_of.ensures (room-next worded)
+    rw c.cast_unsigned.ensures (room-next worded)
 
 pub append_decimal-requires-else-v-lt0 : goal.append_decimal-requires-else-v-lt0
 append_decimal-requires-else-v-lt0 c =
-    let plain : decimal c.u32_of-else-v-lt0.result ≡ signed_decimal c.args.v =
-    ap decimal (c.u32_of-else-v-lt0.ensures ∙ ap (unsigned w32) (signed-unsigned c.ranges.v))
+    let plain : decimal c.cast_unsigned-else-v-lt0.result ≡ signed_decimal c.args.v =
+    ap decimal (c.cast_unsigned-else-v-lt0.ensures ∙ ap (unsigned w32) (signed-unsigned c.ranges.v))
     ∙ sym (other-text c.args.v c.ranges.v c.if-v-lt0.false) in
     rw plain c.requires
 
@@ -44,13 +44,13 @@ returns-then-v-lt0 c =
     rw text (begin c.args.word.now (sized ∷ []) (rw text at c.requires)) in
     let worded : Standing (sized ∷ []) c.append-next.new.s c.append-next.result =
     next begun c.append-next.ensures in
-    let number = text-as (45 ∷ []) (ap (λ (n : ℕ). decimal (n + 1)) c.u32_of.ensures) c.append_decimal.ensures in
+    let number = text-as (45 ∷ []) (ap (λ (n : ℕ). decimal (n + 1)) c.cast_unsigned.ensures) c.append_decimal.ensures in
     done (next worded number)
 
 pub returns-else-v-lt0 : goal.returns-else-v-lt0
 returns-else-v-lt0 c =
-    let plain : decimal c.u32_of-else-v-lt0.result ≡ signed_decimal c.args.v =
-    ap decimal (c.u32_of-else-v-lt0.ensures ∙ ap (unsigned w32) (signed-unsigned c.ranges.v))
+    let plain : decimal c.cast_unsigned-else-v-lt0.result ≡ signed_decimal c.args.v =
+    ap decimal (c.cast_unsigned-else-v-lt0.ensures ∙ ap (unsigned w32) (signed-unsigned c.ranges.v))
     ∙ sym (other-text c.args.v c.ranges.v c.if-v-lt0.false) in
     let word = c.args.word.now in
     text-as word plain c.append_decimal-else-v-lt0.ensures

@@ -16,10 +16,10 @@ returns c =
     (λ i. record {
       staged = c.read_settings.ensures i;
       active = c.read_settings-2.ensures i;
-      acc = signed-read w32 (record { sfits = c.read_i32.type_inv }) c.read_i32.ensures i;
-      out = c.read_u16.ensures i;
-      er = c.read_u16-2.ensures i;
-      flags = c.read_u32.ensures i;
+      acc = signed-read w32 (record { sfits = c.read.type_inv }) c.read.ensures i;
+      out = c.read-2.ensures i;
+      er = c.read-3.ensures i;
+      flags = c.read-4.ensures i;
       levels = byte-at s at snapshot_size c.requires levels_at (omega arith) i;
       desk = c.read_desk-desk.ensures i;
     })

@@ -9,6 +9,6 @@ use Rattle.snapshot.proofs.codec.write_words.Goals as goal
 pub returns : goal.returns
 unfolding total
 returns c =
-    wrote c.args.s.now (bits-back w32 c.ranges.acc) c.write_i32.ensures
-    (then refl c.write_u16.ensures (then refl c.write_u16-2.ensures (then refl c.write_u32.ensures end)))
+    wrote c.args.s.now (bits-back w32 c.ranges.acc) c.write.ensures
+    (then refl c.write-2.ensures (then refl c.write-3.ensures (then refl c.write-4.ensures end)))
     c.requires

@@ -16,5 +16,5 @@ returns c =
     (λ i. record {
       kind = sym (number_at-one s at (omega (arith, c.requires))) i;
       sub = sym (number_at-one s (at + 1) (omega (arith, c.requires))) i;
-      value = signed-read w32 (record { sfits = c.read_i32.type_inv }) c.read_i32.ensures i;
+      value = signed-read w32 (record { sfits = c.read.type_inv }) c.read.ensures i;
     })

@@ -8,8 +8,8 @@ use Rattle.snapshot.proofs.settings.write_limits.Goals as goal
 pub returns : goal.returns
 unfolding total
 returns c =
-    wrote c.args.s.now (bits-back w32 c.ranges.hip) c.write_i32.ensures
-    (then (bits-back w32 c.ranges.lop) c.write_i32-2.ensures
-    (then (bits-back w32 c.ranges.ovf) c.write_i32-3.ensures
-    (then (bits-back w32 c.ranges.unf) c.write_i32-4.ensures end)))
+    wrote c.args.s.now (bits-back w32 c.ranges.hip) c.write.ensures
+    (then (bits-back w32 c.ranges.lop) c.write-2.ensures
+    (then (bits-back w32 c.ranges.ovf) c.write-3.ensures
+    (then (bits-back w32 c.ranges.unf) c.write-4.ensures end)))
     c.requires

@@ -8,6 +8,6 @@ use Rattle.snapshot.proofs.settings.write_modes.Goals as goal
 pub returns : goal.returns
 unfolding total
 returns c =
-    wrote c.args.s.now (bits-back w16 c.ranges.pfn) c.write_i16.ensures
-    (then (bits-back w16 c.ranges.mode) c.write_i16-2.ensures end)
+    wrote c.args.s.now (bits-back w16 c.ranges.pfn) c.write.ensures
+    (then (bits-back w16 c.ranges.mode) c.write-2.ensures end)
     c.requires

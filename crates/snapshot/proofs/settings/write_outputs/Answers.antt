@@ -7,6 +7,6 @@ use Rattle.snapshot.proofs.settings.write_outputs.Goals as goal
 pub returns : goal.returns
 unfolding total
 returns c =
-    wrote c.args.s.now refl c.write_u16.ensures
-    (then refl c.write_u16-2.ensures (then refl c.write_u16-3.ensures end))
+    wrote c.args.s.now refl c.write.ensures
+    (then refl c.write-2.ensures (then refl c.write-3.ensures end))
     c.requires

@@ -8,5 +8,5 @@ pub returns : goal.returns
 returns c =
     let bytes = c.shared_slice_known-1.given in
     own-written c.args.s.now (λ i. (bytes i).fits) c.requires.0
-    (moving-written c.args.moving.now c.requires.1 c.read_u32.ensures c.write_u32.ensures c.read_u32-2.ensures
-    c.write_u32-2.ensures (c.write_u32-2.auto.s ∙ c.write_u32.auto.s ∙ c.requires.1) (bytes levels_at).fits refl)
+    (moving-written c.args.moving.now c.requires.1 c.read.ensures c.write.ensures c.read-2.ensures
+    c.write-2.ensures (c.write-2.auto.bytes ∙ c.write.auto.bytes ∙ c.requires.1) (bytes levels_at).fits refl)

@@ -8,5 +8,5 @@ use Rattle.snapshot.proofs.split.write_moving.Goals as goal
 pub returns : goal.returns
 returns c =
     let a = c.args in
-    moving-written a.moving.now c.requires (bits-back w32 c.ranges.acc) c.write_i32.ensures refl c.write_u32.ensures
-    (c.write_u32.auto.s ∙ c.write_i32.auto.s ∙ c.requires) c.ranges.levels.fits refl
+    moving-written a.moving.now c.requires (bits-back w32 c.ranges.acc) c.write.ensures refl c.write-2.ensures
+    (c.write-2.auto.bytes ∙ c.write.auto.bytes ∙ c.requires) c.ranges.levels.fits refl

@@ -19,11 +19,11 @@ returns c =
     let image = c.args.image.now in
     let m = c.args.moving.now in
     let at = c.args.at in
-    let long = c.write_u32-2.auto.s ∙ c.write_u32.auto.s in
-    let last = c.write_u32-2.new.s in
+    let long = c.write-2.auto.bytes ∙ c.write.auto.bytes in
+    let last = c.write-2.new.bytes in
     replaced-image image m at (λ i. (c.slice_known-1.given i).fits) (λ i. (c.shared_slice_known-1.given i).fits) c.requires.0 c.requires.1
-    (and (lit< tt) (c.write_u32.ensures ∙ ap (λ (n : ℕ). put image (at + acc_at) (to_bytes 4 n)) c.read_u32.ensures)
-    (and (lit< tt) (c.write_u32-2.ensures ∙ ap (λ (n : ℕ). put c.write_u32.new.s (at + flags_at) (to_bytes 4 n)) c.read_u32-2.ensures)
+    (and (lit< tt) (c.write.ensures ∙ ap (λ (n : ℕ). put image (at + acc_at) (to_bytes 4 n)) c.read.ensures)
+    (and (lit< tt) (c.write-2.ensures ∙ ap (λ (n : ℕ). put c.write.new.bytes (at + flags_at) (to_bytes 4 n)) c.read-2.ensures)
     (and (lit< tt)
     (set-byte last (at + levels_at) (get_or m moving_levels_at 0) (omega (arith, long, c.requires.0)) (c.shared_slice_known-1.given moving_levels_at).fits
     ∙ ap (λ (n : ℕ). put last (at + levels_at) (to_bytes 1 n)) (sym (number_at-one m moving_levels_at (omega (arith, c.requires.1)))))
