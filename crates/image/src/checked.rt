@@ -4,8 +4,7 @@ ghost use Rattle.refusal.specs.Refusals.{given};
 ghost use Rattle.image.specs.Header.{event_count, spacing_of, edition_of, header_verdict};
 ghost use Rattle.image.specs.Verdicts.{image_verdict};
 
-use crate::edition::Edition;
-use crate::events::first_illegal;
+use crate::edition::{Edition, first_illegal};
 use crate::header::{number, snapshot_place};
 use crate::patch::patch_verdict;
 use crate::{edition, header};

@@ -4,7 +4,6 @@
 pub mod check;
 mod checked;
 pub mod edition;
-pub mod events;
 pub mod header;
 mod patch;
-pub mod table;
+pub mod running;

@@ -4,8 +4,7 @@ ghost use Rattle.refusal.specs.Refusals.{answer_of};
 ghost use Rattle.image.specs.Editions.{system};
 ghost use Rattle.image.specs.Verdicts.{patch_verdict};
 
-use crate::edition::Edition;
-use crate::events::first_illegal;
+use crate::edition::{Edition, first_illegal};
 use refusal::Refusal;
 use snapshot::EVENT_SIZE;
 
