@@ -22,8 +22,8 @@ pub fn read_event(s: &[u8], at: usize) -> Event
     ensures { result ≡ event_of (part s.now at event_size) }
 {
     Event {
-        kind: s[at],
-        sub: s[at + places::SUB],
+        kind: u8::read(s, at),
+        sub: u8::read(s, at + places::SUB),
         value: i32::read(s, at + places::VALUE),
     }
 }

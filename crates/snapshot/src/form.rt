@@ -23,9 +23,9 @@ pub fn formed(s: &[u8], at: usize) -> bool
         out,
         er,
         flags,
-        s[at + places::LEVELS],
-        s[at + places::RUNNING],
-        s[at + places::FIRST],
-        s[at + places::SECOND],
+        u8::read(s, at + places::LEVELS),
+        u8::read(s, at + places::RUNNING),
+        u8::read(s, at + places::FIRST),
+        u8::read(s, at + places::SECOND),
     )
 }
