@@ -18,15 +18,15 @@ returns c =
     let at = c.args.at in
     let f = counter-typed c.args.c _ c.struct_told-1.given in
     let other =
-        wrote-from
-        (then (bits-back w32 f.acc) c.write.ensures
-        (then refl c.write-2.ensures
-        (then refl c.write-3.ensures
-        (then refl c.write-4.ensures
-        (then refl c.write-5.ensures
-        (then refl c.write-6.ensures
-        (then refl c.write-7.ensures
-        (then refl c.write-8.ensures end))))))))
-        (omega (arith, c.requires)) in
+    wrote-from
+    (then (bits-back w32 f.acc) c.write.ensures
+    (then refl c.write-2.ensures
+    (then refl c.write-3.ensures
+    (then refl c.write-4.ensures
+    (then refl c.write-5.ensures
+    (then refl c.write-6.ensures
+    (then refl c.write-7.ensures
+    (then refl c.write-8.ensures end))))))))
+    (omega (arith, c.requires)) in
     let room : at ≤ length s = omega (arith, c.requires) in
     put-rows _ _ _ _ s _ _ at room (put-rows _ _ _ _ s _ _ at room c.write_settings.ensures c.write_settings-2.ensures refl) other refl

@@ -1,6 +1,5 @@
 -- `snapshot::settings::write_settings` meets its contract: nine writes side by side are one row, and a signed setting is written by its bits.
 use mathlib.Core.Path.{refl}
-use native.Mathlib.Omega.{arith}
 use mir.Syntax.{w16, w32}
 use Rattle.word.specs.Layouts.{total}
 use Rattle.word.proofs.TwosComplement.{bits-back}
