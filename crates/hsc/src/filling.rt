@@ -2,7 +2,6 @@
 ghost use Rattle.std.specs.Prelude.{◌≡◌};
 ghost use Rattle.hsc.specs.Fields.{settings_fields, stored_fields, shown_fields, fields_of};
 
-use counter::reading;
 use counter::state::{Counter, Settings};
 use word::parts::copy_over;
 
@@ -46,12 +45,12 @@ fn shown_row(c: Counter) -> [i32; 6]
     ensures { result ≡ shown_fields c }
 {
     [
-        i32::from(reading::uix(c)),
-        i32::from(reading::uip(c)),
-        i32::from(reading::cu(c)),
-        i32::from(reading::cd(c)),
-        i32::from(reading::hpr(c)),
-        i32::from(reading::lpr(c)),
+        i32::from(c.uix()),
+        i32::from(c.uip()),
+        i32::from(c.cu()),
+        i32::from(c.cd()),
+        i32::from(c.hpr()),
+        i32::from(c.lpr()),
     ]
 }
 

@@ -5,7 +5,7 @@ ghost use Rattle.replay.specs.System.{Held};
 ghost use Rattle.snapshot.specs.Widths.{event_size};
 ghost use Rattle.image.specs.Editions.{system, acc_of, edition_at, max_size, max_beside};
 
-use counter::state::fresh;
+use counter::state::Counter;
 use snapshot::{MOVING_SIZE, SNAPSHOT_SIZE, codec, event, form, split};
 
 // The editions, by the header's sixth number.
@@ -81,7 +81,7 @@ pub fn begin(ed: Edition, image: &mut [u8], at: usize)
         ≡ put image.old at ((system ed).encode ((system ed).start (part image.old at (system ed).size))) }
 {
     match ed {
-        Edition::Base => codec::encode(fresh(), image, at),
+        Edition::Base => codec::encode(Counter::fresh(), image, at),
     }
 }
 

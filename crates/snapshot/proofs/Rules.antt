@@ -31,11 +31,3 @@ formed-mask b n l h = formed-decode b ∙ mask-formed (decode b) n l h
 -- one in which two equal causes wait is not
 pub formed-equal : (b : List ℕ) → eqb (second (decode b).desk) 0 ≡ false → first (decode b).desk ≡ second (decode b).desk → formed b ≡ false
 formed-equal b two same = formed-decode b ∙ equal-formed (decode b) two same
-
-abbrev by_parts : Counter → Bool
-by_parts c = parts_formed c.active c.out c.er c.flags c.levels c.desk.running (first c.desk) (second c.desk)
-
--- well formed inside an image
-pub formed-part : (s : List ℕ) (at : ℕ) → formed (part s at snapshot_size) ≡ formed_at s at
-unfolding formed
-formed-part s at = ap by_parts (sym (decode-places (part s at snapshot_size)) ∙ decode-part s at)

@@ -5,6 +5,7 @@ ghost use Rattle.std.specs.Int.{w32};
 ghost use Rattle.word.specs.Part.{part, put};
 ghost use Rattle.word.specs.TwosComplement.{unsigned};
 ghost use Rattle.word.specs.Layouts.{pack};
+ghost use Rattle.accumulator.specs.Causes.{number};
 ghost use Rattle.counter.specs.Desk.{empty};
 ghost use Rattle.counter.specs.Parts.{with_acc, with_flags, with_levels, with_desk};
 ghost use Rattle.counter.specs.Interrupts.{raise};
@@ -17,8 +18,10 @@ ghost use Rattle.snapshot.specs.Split.{split_state, HoldsIfGood};
 
 use crate::event::read_event;
 use crate::{SNAPSHOT_SIZE, codec, places};
+use accumulator::cause::Cause;
+use counter::desk::Desk;
 use counter::state::Counter;
-use counter::{causes, desk, legality, sampling, stepping};
+use counter::{legality, stepping};
 use word::bytes::LittleEndian;
 use word::parts::{copy_over, copy_part};
 
@@ -109,16 +112,17 @@ pub fn write_snapshot(image: &mut [u8], at: usize, s: &[u8], moving: &[u8])
 
 // Another ACC, flags and levels, and then the cause. The state is read again here: kept from before the sample, it would have to be read
 // whole for every sample.
-fn raise_over(s: &mut [u8], moving: &mut [u8], acc: i32, flags: u32, levels: u8, cause: u8)
+fn raise_over(s: &mut [u8], moving: &mut [u8], acc: i32, flags: u32, levels: u8, cause: Cause)
     requires { (length s.old ≡ snapshot_size) × (length moving.old ≡ moving_size) }
-    ensures { HoldsIfGood (raise cause (with_flags flags (with_acc acc (with_levels levels (decode s.old)))))
+    ensures { HoldsIfGood (raise (number cause) (with_flags flags (with_acc acc (with_levels levels (decode s.old)))))
         s.new moving.new }
 {
     let mut c = codec::decode(s, 0);
     c.acc = acc;
     c.flags = flags;
     c.levels = levels;
-    write_state(causes::raise(c, cause), s, moving);
+    c.raise(cause);
+    write_state(c, s, moving);
 }
 
 // The state without its desk, which a sample does not look at and which then need not be loaded.
@@ -126,9 +130,8 @@ fn read_without_desk(s: &[u8], moving: &[u8]) -> Counter
     requires { (length s.now ≡ snapshot_size) × (length moving.now ≡ moving_size) }
     ensures { result ≡ with_desk empty (split_state s.now moving.now) }
 {
-    let none = desk::empty();
     let mut c = read_state(s, moving);
-    c.desk = none;
+    c.desk = Desk::empty();
     c
 }
 
@@ -138,14 +141,13 @@ fn sample_over(s: &mut [u8], moving: &mut [u8], new: u8)
     ensures { HoldsIfGood (sample new (split_state s.old moving.old)) s.new moving.new }
 {
     let c = read_without_desk(s, moving);
-    if sampling::is_idle(c, new) {
+    if c.is_idle(new) {
         moving[places::MOVING_LEVELS] = new;
     } else {
-        let r = sampling::sampled(c, new);
-        if r.cause == 0 {
-            write_moving(moving, r.acc, r.flags, new);
-        } else {
-            raise_over(s, moving, r.acc, r.flags, new, r.cause);
+        let r = c.sampled(new);
+        match r.cause {
+            None => write_moving(moving, r.acc, r.flags, new),
+            Some(cause) => raise_over(s, moving, r.acc, r.flags, new, cause),
         }
     }
 }
@@ -155,8 +157,9 @@ fn control_over(s: &mut [u8], moving: &mut [u8], kind: u8, sub: u8, v: i32)
     requires { (length s.old ≡ snapshot_size) × (length moving.old ≡ moving_size) }
     ensures { HoldsIfGood (step_control kind sub v (split_state s.old moving.old)) s.new moving.new }
 {
-    let next = stepping::step_control(read_state(s, moving), kind, sub, v);
-    write_state(next, s, moving);
+    let mut c = read_state(s, moving);
+    c.step_control(kind, sub, v);
+    write_state(c, s, moving);
 }
 
 /// Takes the event from byte at.

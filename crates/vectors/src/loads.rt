@@ -1,10 +1,10 @@
 // Crate `counter`: the rows of document 01's bench table that are run, and not proved, and those of document 02, request 6. Settings by
 // what a row names, the rest good.
 use super::words::verdict;
-use counter::state::Settings;
-use counter::{flag, rules, state, stepping};
+use counter::flag;
+use counter::rules::Rule;
+use counter::state::{Counter, Settings};
 use std::io;
-use word::bits;
 
 pub fn settings(pfn: i16, mode: i16, hip: i32, lop: i32, ovf: i32, unf: i32) -> Settings {
     Settings {
@@ -22,9 +22,7 @@ pub fn settings(pfn: i16, mode: i16, hip: i32, lop: i32, ovf: i32, unf: i32) -> 
 
 // The same settings with a mask.
 fn masked(s: Settings, omb: u16) -> Settings {
-    let mut t = s;
-    t.omb = omb;
-    t
+    Settings { omb, ..s }
 }
 
 fn print_error(rt: &impl Print, name: &str, broken: u16) -> io::Result<()> {
@@ -35,23 +33,31 @@ fn print_error(rt: &impl Print, name: &str, broken: u16) -> io::Result<()> {
     }
 }
 
-// One load: its name, and the rule that it should break, 0 for none.
+// ER after a check: the number of the rule that it found broken, 0 if it found none.
+fn er_of(checked: Result<(), Rule>) -> u16 {
+    match checked {
+        Ok(()) => 0,
+        Err(rule) => u16::from(rule),
+    }
+}
+
+// One load: its name, and the number of the rule that it should break, 0 for none.
 fn load(rt: &impl Print, name: &str, s: Settings, expected: u16) -> io::Result<()> {
-    let broken = rules::first_broken(s);
+    let broken = er_of(s.check());
     print_error(rt, name, broken)?;
     println!(rt; " {}", verdict(broken == expected))
 }
 
 // One preset load of these settings over good ones with HIP 3: the staged HIP should be active after it exactly if no rule is broken.
 fn preset_load(rt: &impl Print, name: &str, s: Settings, expected: u16) -> io::Result<()> {
-    let mut c = state::fresh();
+    let mut c = Counter::fresh();
     c.staged = s;
     c.active = settings(3, 2, 3, -2, 5, -3);
-    c.flags = bits::set(c.flags, flag::LOADED);
-    let d = stepping::step(c, 6, 0, 0);
-    let a = d.active;
-    print_error(rt, name, d.er)?;
-    let ok = d.er == expected && (a.hip == s.hip) == (expected == 0) && a.omb == 0;
+    c.set(flag::LOADED);
+    c.step(6, 0, 0);
+    print_error(rt, name, c.er)?;
+    let loaded = c.active.hip == s.hip;
+    let ok = c.er == expected && loaded == (expected == 0) && c.active.omb == 0;
     println!(rt; " {}", verdict(ok))
 }
 

@@ -1,10 +1,9 @@
 // Crate `counter`: input 0 falls in modes 6 and 7 with the other three inputs and CE in both positions (document 02, request 4).
 use super::loads::settings;
 use super::words::verdict;
+use counter::flag;
 use counter::state::Counter;
-use counter::{flag, state, stepping};
 use std::io;
-use word::bits;
 
 // Inputs 1 to 3, as levels.
 const B: u8 = 2;
@@ -15,21 +14,23 @@ const HOLD: u8 = 8;
 
 // The counter before each sample: at 5 with DIR 1, far from presets and limits.
 fn before(mode: i16, ce: bool, levels: u8) -> Counter {
-    let mut c = state::fresh();
+    let mut c = Counter::fresh();
     c.active = settings(3, mode, 50, -50, 60, -60);
     c.acc = 5;
     c.levels = levels;
-    let flags = bits::set(bits::set(c.flags, flag::LOADED), flag::DIR);
+    c.set(flag::LOADED);
+    c.set(flag::DIR);
     if ce {
-        c.flags = bits::set(flags, flag::CE);
-    } else {
-        c.flags = flags;
+        c.set(flag::CE);
     }
     c
 }
 
-fn dir(c: Counter) -> bool {
-    bits::has(c.flags, flag::DIR)
+// The counter after a sample.
+fn after(c: Counter, new: u8) -> Counter {
+    let mut d = c;
+    d.step(1, 0, new as i32);
+    d
 }
 
 // What a sample gave in one mode, from inputs that stay but for input 0: ACC, DIR, and whether both
@@ -43,13 +44,14 @@ struct Fall {
 
 // ACC should be as expected, and DIR 1 exactly if there was no count down.
 fn in_mode(mode: i16, ce: bool, new: u8, expected: i32) -> Fall {
-    let alone = stepping::step(before(mode, ce, new | 1), 1, 0, new as i32);
-    let all = stepping::step(before(mode, ce, new ^ 15), 1, 0, new as i32);
+    let alone = after(before(mode, ce, new | 1), new);
+    let all = after(before(mode, ce, new ^ 15), new);
     let acc = alone.acc == expected && all.acc == expected;
+    let up = expected != 4;
     Fall {
         acc: alone.acc,
-        dir: dir(alone),
-        ok: acc && dir(alone) == (expected != 4) && dir(all) == (expected != 4),
+        dir: alone.has(flag::DIR),
+        ok: acc && alone.has(flag::DIR) == up && all.has(flag::DIR) == up,
     }
 }
 

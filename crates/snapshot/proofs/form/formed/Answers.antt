@@ -1,12 +1,12 @@
--- `snapshot::form::formed` meets its contract: each part is read at its place.
-use mathlib.Core.Path.{◌∙◌}
-use Rattle.counter.specs.WellFormed.{parts_formed}
-use Rattle.snapshot.proofs.Rules.{formed-part}
+-- `snapshot::form::formed` meets its contract: the state that the snapshot holds is asked, which says the same.
+use mathlib.Core.Path.{sym, ap, ◌∙◌}
+use Rattle.word.specs.Part.{part}
+use Rattle.counter.specs.WellFormed.{well_formed}
+use Rattle.snapshot.specs.Widths.{snapshot_size}
+use Rattle.snapshot.proofs.Rules.{formed-decode}
 use Rattle.snapshot.proofs.form.formed.Goals as goal
 
 pub returns : goal.returns
 returns c =
-    rw (formed-part c.args.s.now c.args.at)
-    (c.parts_formed.ensures
-    ∙ (λ i. parts_formed (c.read_settings-active.ensures i) (c.read-out.ensures i) (c.read-er.ensures i) (c.read-flags.ensures i)
-    (c.read.ensures i) (c.read-2.ensures i) (c.read-3.ensures i) (c.read-4.ensures i)))
+    let snapshot = part c.args.s.now c.args.at snapshot_size in
+    c.is_well_formed.ensures ∙ ap well_formed c.decode.ensures ∙ sym (formed-decode snapshot)
