@@ -11,5 +11,6 @@ pub fn formed(s: &[u8], at: usize) -> bool
     requires { at + snapshot_size ≤ length s.now }
     ensures { result ≡ formed (part s.now at snapshot_size) }
 {
-    decode(s, at).is_well_formed()
+    let c = decode(s, at);
+    c.is_well_formed()
 }
