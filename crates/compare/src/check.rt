@@ -7,8 +7,7 @@ ghost use Rattle.image.specs.Rows.{events_in};
 ghost use Rattle.image.specs.Verdicts.{events_verdict};
 ghost use Rattle.compare.specs.Comparing.{bad_length, lengths_verdict, trace_verdict};
 
-use image::edition::Edition;
-use image::events::first_illegal;
+use image::edition::{Edition, first_illegal};
 use image::header::MAX_EVENTS;
 use refusal::{Refusal, Trace};
 use snapshot::EVENT_SIZE;

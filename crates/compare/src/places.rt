@@ -11,9 +11,9 @@ ghost use Rattle.image.specs.Verdicts.{events_verdict};
 ghost use Rattle.compare.specs.Places.{differing, shared};
 ghost use Rattle.compare.specs.Comparing.{trace_verdict, traces_verdict};
 
-use image::edition::{Edition, legal};
 use refusal::{Refusal, Trace};
 use snapshot::EVENT_SIZE;
+use snapshot::event::legal_event;
 use word::bytes::LittleEndian;
 
 // Whether the events at place i have the same 8 bytes before their stamps: of legal ones, the same kind, sub and value.
@@ -32,7 +32,7 @@ fn legal_beside(first: &[u8], second: &[u8], i: usize) -> bool
     if same_front(first, second, i) {
         return true;
     }
-    legal(Edition::Base, second, i * EVENT_SIZE)
+    legal_event(second, i * EVENT_SIZE)
 }
 
 // Refusal 5 of the second's first count events, or how many of these places differ; the first trace's are legal.

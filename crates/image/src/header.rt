@@ -2,12 +2,14 @@
 ghost use Rattle.std.specs.Prelude.{◌≡◌, ◌+◌, ◌*◌, ◌^◌, ◌≤◌, ◌<◌, length};
 ghost use Rattle.word.specs.LittleEndian.{number_at};
 ghost use Rattle.refusal.specs.Refusals.{answer_of};
+ghost use Rattle.replay.specs.Traces.{shape_of as trace_shape};
 ghost use Rattle.snapshot.specs.Widths.{event_size};
-ghost use Rattle.image.specs.Header.{header_size, max_events, edition_of};
+ghost use Rattle.image.specs.Header.{header_size, max_events, shape_of, edition_of};
 ghost use Rattle.image.specs.Header.{limits_broken, offsets_broken, header_verdict};
 
 use crate::edition::{Edition, edition_at};
 use refusal::Refusal;
+use replay::trace::Trace;
 use snapshot::EVENT_SIZE;
 use word::bytes::LittleEndian;
 
@@ -51,6 +53,18 @@ pub fn edition(image: &[u8]) -> Edition
     ensures { result ≡ edition_of image.now }
 {
     edition_at(number(image, SIXTH))
+}
+
+/// The trace that the header tells.
+pub fn trace(image: &[u8]) -> Trace
+    requires { header_size ≤ length image.now }
+    ensures { trace_shape result ≡ shape_of image.now }
+{
+    Trace {
+        header: SIZE,
+        count: number(image, EVENT_COUNT),
+        spacing: number(image, SPACING),
+    }
 }
 
 /// The byte at which event `i` begins.

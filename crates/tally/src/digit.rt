@@ -31,6 +31,14 @@ impl Machine for Digit {
         events[at] < 10
     }
 
+    fn is_formed(image: &[u8], at: usize) -> bool {
+        image[at] < 10
+    }
+
+    fn may_start(image: &[u8], at: usize) -> bool {
+        true
+    }
+
     fn begin(image: &mut [u8], at: usize) {
         image[at] = 0;
     }
