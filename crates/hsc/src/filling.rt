@@ -68,11 +68,7 @@ fn copy_row(fields: &mut [i32], at: usize, row: &[i32])
     requires { at + length row.now ≤ length fields.old }
     ensures { fields.new ≡ put fields.old at row.now }
 {
-    let mut i = 0;
-    while i < row.len() {
-        fields[at + i] = row[i];
-        i += 1;
-    }
+    fields[at..at + row.len()].copy_from_slice(row);
 }
 
 // Every number of the state.
