@@ -1,4 +1,4 @@
-// The flags that code names, by bit.
+//! The flags, by bit.
 pub const UIE: u32 = 0;
 
 pub const UIL: u32 = 1;

@@ -4,7 +4,7 @@ ghost use Rattle.word.specs.Masks.{bit};
 ghost use Rattle.counter.specs.Modes.{mode_number};
 ghost use Rattle.counter.specs.Sample.{rises, falls, reset_by, inhibited, direction, alone_up};
 ghost use Rattle.counter.specs.Sample.{by_level, by_input, by_phase, count_of};
-ghost use Rattle.counter.specs.Idle.{none_rises, by_rises};
+ghost use Rattle.counter.specs.Idle.{none_rises};
 
 use crate::mode::Mode;
 use word::bits;
@@ -45,17 +45,6 @@ pub fn none_rises(old: u8, new: u8) -> bool
     ensures { result ≡ none_rises old new 8 }
 {
     new & !old == 0
-}
-
-/// Whether it is known that the mode counts and resets by rises alone: 0 to 5.
-#[tactic(auto, unfolding(crate::specs::Idle::by_rises))]
-pub fn by_rises(mode: Option<Mode>) -> bool
-    ensures { result ≡ by_rises (mode_number mode) }
-{
-    match mode {
-        Some(Mode::Quadrature | Mode::QuadratureReset) | None => false,
-        Some(_) => true,
-    }
 }
 
 /// Whether the inputs reset: in mode 7 input 0 falls with 1 off and 2 on, in 1, 3 and 5 input 2

@@ -3,7 +3,7 @@ ghost use Rattle.std.specs.Prelude.{◌≡◌, pos};
 ghost use Rattle.accumulator.specs.Causes.{cause_number};
 ghost use Rattle.counter.specs.Parts.{mode_of, up_only};
 ghost use Rattle.counter.specs.Sample.{up_flags, down_flags, unmoved, counted_up, counted_down};
-ghost use Rattle.counter.specs.Sample.{counted_by, resets, may_count, count, sampled, sample};
+ghost use Rattle.counter.specs.Sample.{counted_by, resets, may_count, allowed_count, sampled, sample};
 ghost use Rattle.counter.specs.Sample.{count_of, sampled_as, sampled_of};
 ghost use Rattle.counter.specs.Idle.{idle};
 
@@ -120,14 +120,11 @@ impl Counter {
         self.has(flag::LOADED) & (self.has(flag::CE) & !inputs::inhibited(self.active.mode(), new))
     }
 
-    /// The count that the sample makes.
-    #[tactic(auto, unfolding(crate::specs::Sample::count))]
+    /// The count that a sample makes which does not reset.
     fn count(&self, new: u8) -> Option<Count>
-        ensures { count_of result ≡ count new self.now }
+        ensures { count_of result ≡ allowed_count new self.now }
     {
-        if self.resets(new) {
-            None
-        } else if self.may_count(new) {
+        if self.may_count(new) {
             inputs::direction(self.active.mode(), self.levels, new)
         } else {
             None
@@ -140,11 +137,11 @@ impl Counter {
     pub fn is_idle(&self, new: u8) -> bool
         ensures { result ≡ idle new self.now }
     {
-        inputs::none_rises(self.levels, new) & inputs::by_rises(self.active.mode())
+        inputs::none_rises(self.levels, new) & self.active.by_rises()
     }
 
     /// What the sample makes of ACC and the flags.
-    #[tactic(auto, unfolding(crate::specs::Sample::sampled))]
+    #[tactic(auto, unfolding(crate::specs::Sample::sampled, crate::specs::Sample::count))]
     pub fn sampled(&self, new: u8) -> Sampled
         ensures { sampled_of result ≡ sampled new self.now }
     {
