@@ -1,11 +1,12 @@
-// Two traces side by side: the places where they differ, into a lent row, and the rest of the longer.
+//! Two traces side by side: the places where they differ, into a lent row, and the rest of the longer.
 #![tactic(auto)]
 
 ghost use Rattle.std.specs.Prelude.{◌≡◌, length};
 ghost use Rattle.refusal.specs.declared.Trace.TheVariants.{First};
 ghost use Rattle.refusal.specs.Refusals.{answer_of, given, ◌and_then◌};
 ghost use Rattle.compare.specs.Places.{differing, shared};
-ghost use Rattle.compare.specs.Comparing.{lengths_verdict, trace_verdict, traces_verdict, compare_answer, compare_row};
+ghost use Rattle.compare.specs.Comparing.{lengths_verdict, trace_verdict, traces_verdict};
+ghost use Rattle.compare.specs.Comparing.{compare_answer, compare_row};
 
 use crate::check::{first_verdict, trace_verdict};
 use crate::places::{count_differences, write_differences};

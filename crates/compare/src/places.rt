@@ -1,4 +1,4 @@
-// The places where two traces differ: counted while the second is checked, and written into a row.
+//! The places where two traces differ: counted while the second is checked, and written into a row.
 ghost use Rattle.std.specs.Prelude.{◌≡◌, true, ◌*◌, ◌≤◌, ◌<◌, eqb, length};
 ghost use Rattle.word.specs.Part.{part, put};
 ghost use Rattle.word.specs.LittleEndian.{number_at};
@@ -35,7 +35,8 @@ fn legal_beside(first: &[u8], second: &[u8], i: usize) -> bool
     legal_event(second, i * EVENT_SIZE)
 }
 
-// Refusal 5 of the second's first count events, or how many of these places differ; the first trace's are legal.
+/// Counts at how many of the first `count` places two traces differ, or refuses the second by 5 at
+/// the first of these events that is illegal; the first trace's are legal.
 pub fn count_differences(first: &[u8], second: &[u8], count: usize) -> Result<usize, Refusal>
     requires { (trace_verdict First first.now ≡ given tt) × (count ≤ shared first.now second.now) }
     ensures { answer_of result ≡ (in_trace Second (events_verdict base 5 second.now 0 count)
@@ -53,7 +54,8 @@ pub fn count_differences(first: &[u8], second: &[u8], count: usize) -> Result<us
     Ok(n)
 }
 
-// Writes the places, of the first count, where two traces that are not refused differ, and which are n, from the row's start on.
+/// Writes the places, of the first `count`, where two traces that are not refused differ, and which
+/// are `n`, from the row's start on.
 pub fn write_differences(first: &[u8], second: &[u8], count: usize, n: usize, row: &mut [u32])
     requires accepted { (traces_verdict first.now second.now ≡ given tt) × (count ≤ shared first.now second.now) }
     requires counted { (n ≡ length (differing first.now second.now 0 count)) × (n ≤ length row.old) }

@@ -4,7 +4,8 @@ ghost use Rattle.std.specs.Prelude.{◌≡◌};
 ghost use Rattle.accumulator.specs.Causes.{number};
 ghost use Rattle.counter.specs.Parts.{with_flags};
 ghost use Rattle.counter.specs.Desk.{next_of};
-ghost use Rattle.counter.specs.Interrupts.{unmasked, enabled, quiet, started, finished_flags, interrupt, routine_done, with_outputs, raise};
+ghost use Rattle.counter.specs.Interrupts.{unmasked, enabled, quiet, started, finished_flags};
+ghost use Rattle.counter.specs.Interrupts.{interrupt, routine_done, with_outputs, raise};
 
 use crate::desk::Outcome;
 use crate::state::Counter;

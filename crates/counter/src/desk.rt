@@ -1,13 +1,14 @@
 //! The desk: the running cause and the waiting ones.
 ghost use Rattle.std.specs.Prelude.{◌≡◌, ◌<◌};
 ghost use Rattle.accumulator.specs.Causes.{number};
-ghost use Rattle.counter.specs.Desk.{queued_of, empty, waits, starting, waiting, resting, advancing, post, finish, next_of};
+ghost use Rattle.counter.specs.Desk.{queued_of, empty, waits, starting, waiting, resting};
+ghost use Rattle.counter.specs.Desk.{advancing, post, finish, next_of};
 
 use accumulator::cause::Cause;
 
 /// The running cause and the waiting ones, by number, 0 for none. The waiting ones stand at the
 /// front of `waiting`, `queued` of them, in order of arrival.
-// Numbers, not `Option<Cause>`: a state holds any byte of a snapshot (`encode-decode`, `step-over`).
+// Not `Option<Cause>`: a state holds any byte of a snapshot (`encode-decode`, `step-over`).
 #[derive(Clone, Copy, Debug, PartialEq, Eq)]
 pub struct Desk {
     pub running: u8,

@@ -2,7 +2,8 @@
 ghost use Rattle.std.specs.Prelude.{◌≡◌, ◌<◌};
 ghost use Rattle.word.specs.Masks.{bit};
 ghost use Rattle.counter.specs.Modes.{mode_number};
-ghost use Rattle.counter.specs.Sample.{rises, falls, reset_by, inhibited, direction, alone_up, by_level, by_input, by_phase, count_of};
+ghost use Rattle.counter.specs.Sample.{rises, falls, reset_by, inhibited, direction, alone_up};
+ghost use Rattle.counter.specs.Sample.{by_level, by_input, by_phase, count_of};
 ghost use Rattle.counter.specs.Idle.{none_rises, by_rises};
 
 use crate::mode::Mode;
@@ -57,7 +58,8 @@ pub fn by_rises(mode: Option<Mode>) -> bool
     }
 }
 
-/// Whether the inputs reset: in mode 7 input 0 falls with 1 off and 2 on, in 1, 3 and 5 input 2 rises.
+/// Whether the inputs reset: in mode 7 input 0 falls with 1 off and 2 on, in 1, 3 and 5 input 2
+/// rises.
 #[tactic(auto, unfolding(crate::specs::Sample::reset_by, crate::specs::Sample::has_reset))]
 pub fn reset_by(mode: Option<Mode>, old: u8, new: u8) -> bool
     ensures { result ≡ reset_by (mode_number mode) old new }

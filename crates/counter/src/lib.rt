@@ -4,6 +4,7 @@
 
 pub mod causes;
 pub mod desk;
+pub mod event;
 pub mod flag;
 pub mod inputs;
 pub mod legality;

@@ -1,7 +1,8 @@
 //! Loading settings, whole or the presets alone.
 ghost use Rattle.std.specs.Prelude.{◌≡◌, eqb};
 ghost use Rattle.counter.specs.Parts.{with_active};
-ghost use Rattle.counter.specs.Loading.{rule_number, first_broken, without_error, accepted, rejected, load, with_presets, preset_load};
+ghost use Rattle.counter.specs.Loading.{rule_number, first_broken, without_error, accepted};
+ghost use Rattle.counter.specs.Loading.{rejected, load, with_presets, preset_load};
 
 use crate::flag;
 use crate::rules::Rule;

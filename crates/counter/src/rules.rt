@@ -1,7 +1,8 @@
 //! Loading settings: the rules in their order.
 ghost use Rattle.std.specs.Prelude.{◌≡◌, cond};
 ghost use Rattle.counter.specs.Parts.{mode_of};
-ghost use Rattle.counter.specs.Loading.{rule3, rule_number, er_of, passes, preset_broken, first_broken};
+ghost use Rattle.counter.specs.Loading.{rule3, rule_number, er_of, passes, preset_broken};
+ghost use Rattle.counter.specs.Loading.{first_broken};
 
 use crate::outputs::OUTPUTS_END;
 use crate::state::Settings;

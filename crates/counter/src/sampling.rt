@@ -2,7 +2,9 @@
 ghost use Rattle.std.specs.Prelude.{◌≡◌, pos};
 ghost use Rattle.accumulator.specs.Causes.{cause_number};
 ghost use Rattle.counter.specs.Parts.{mode_of, up_only};
-ghost use Rattle.counter.specs.Sample.{up_flags, down_flags, unmoved, counted_up, counted_down, counted_by, resets, may_count, count, sampled, sample, count_of, sampled_as, sampled_of};
+ghost use Rattle.counter.specs.Sample.{up_flags, down_flags, unmoved, counted_up, counted_down};
+ghost use Rattle.counter.specs.Sample.{counted_by, resets, may_count, count, sampled, sample};
+ghost use Rattle.counter.specs.Sample.{count_of, sampled_as, sampled_of};
 ghost use Rattle.counter.specs.Idle.{idle};
 
 use crate::flag;
@@ -11,7 +13,7 @@ use crate::state::Counter;
 use accumulator::cause::Cause;
 use word::bits;
 
-/// What an input sample makes of ACC and of the flags, and the cause that it raises, if there is one.
+/// What an input sample makes of ACC and of the flags, and the cause that it raises, if any.
 #[derive(Clone, Copy, Debug, PartialEq, Eq)]
 pub struct Sampled {
     pub acc: i32,

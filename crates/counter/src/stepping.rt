@@ -1,13 +1,15 @@
-//! The step of each kind of event, and the step.
-ghost use Rattle.std.specs.Prelude.{◌≡◌, true, ◌<◌};
-ghost use Rattle.counter.specs.Parts.{on, SP};
-ghost use Rattle.counter.specs.Loading.{load};
-ghost use Rattle.counter.specs.Events.{legal, levels_of, word_of, short_of, staged, staged_write, device, set_to, device_write, sp_rises};
-ghost use Rattle.counter.specs.Events.{flag_write, emptied, auto_start, enter_run, output_write, control, step, step_control};
+//! The step of each event.
+ghost use Rattle.std.specs.Prelude.{◌≡◌, ◌<◌};
+ghost use Rattle.counter.specs.Parts.{with_out};
+ghost use Rattle.counter.specs.Events.{levels_of, program_word, bit_value, Legal, controlled};
+ghost use Rattle.counter.specs.Events.{set_to, sp_rises};
+ghost use Rattle.counter.specs.Events.{flag_write, emptied, auto_start, enter_run, output_write};
+ghost use Rattle.counter.specs.Events.{step, step_control};
 
 use crate::desk::Desk;
-use crate::state::{Counter, Settings};
-use crate::{flag, legality, outputs};
+use crate::event::Event;
+use crate::state::Counter;
+use crate::{flag, outputs};
 
 /// The levels that a sample's value gives.
 pub fn levels_of(v: i32) -> u8
@@ -16,101 +18,38 @@ pub fn levels_of(v: i32) -> u8
     (v.cast_unsigned() % 16) as u8
 }
 
-fn word_of(v: i32) -> u16
-    ensures { result ≡ word_of v }
-{
-    (v.cast_unsigned() % 65536) as u16
-}
-
-fn short_of(v: i32) -> i16
-    ensures { result ≡ short_of v }
-{
-    word_of(v).cast_signed()
-}
-
-impl Settings {
-    /// A staged write.
-    #[tactic(auto, unfolding(crate::specs::Events::staged))]
-    fn stage(&mut self, sub: u8, v: i32)
-        ensures { self.new ≡ staged sub v self.old }
-    {
-        match sub {
-            1 => self.hip = v,
-            2 => self.lop = v,
-            3 => self.ovf = v,
-            4 => self.unf = v,
-            5 => self.hpo = word_of(v),
-            6 => self.lpo = word_of(v),
-            _ => {}
-        }
-    }
-
-    /// A write of the programming device.
-    #[tactic(auto, unfolding(crate::specs::Events::device))]
-    fn set_up(&mut self, sub: u8, v: i32)
-        ensures { self.new ≡ device sub v self.old }
-    {
-        match sub {
-            1 => self.pfn = short_of(v),
-            2 => self.mode = short_of(v),
-            3 => self.omb = word_of(v),
-            _ => {}
-        }
-    }
-}
-
 impl Counter {
-    /// Kind 2.
-    #[tactic(auto, unfolding(crate::specs::Events::staged_write))]
-    fn staged_write(&mut self, sub: u8, v: i32)
-        ensures { self.new ≡ staged_write sub v self.old }
-    {
-        self.staged.stage(sub, v);
-    }
-
-    /// Flag n at the value's level.
-    fn set_to(&mut self, n: u32, v: i32)
+    /// Flag n at a level.
+    fn put(&mut self, n: u32, level: bool)
         requires { n < 32 }
-        ensures { self.new ≡ set_to n v self.old }
+        ensures { self.new ≡ set_to n (bit_value level) self.old }
     {
-        if legality::is_zero(v) {
-            self.clear(n);
-        } else {
+        if level {
             self.set(n);
-        }
-    }
-
-    /// Kind 3.
-    #[tactic(auto, unfolding(crate::specs::Events::device_write))]
-    fn device_write(&mut self, sub: u8, v: i32)
-        ensures { self.new ≡ device_write sub v self.old }
-    {
-        if sub == 4 {
-            self.set_to(flag::AS, v);
         } else {
-            self.staged.set_up(sub, v);
+            self.clear(n);
         }
     }
 
     /// Whether the write takes SP from 0 to 1.
     #[tactic(auto, unfolding(crate::specs::Events::sp_rises))]
-    fn sp_rises(&self, sub: u8, v: i32) -> bool
-        ensures { result ≡ sp_rises sub v self.now }
+    fn sp_rises(&self, flag: u8, level: bool) -> bool
+        ensures { result ≡ sp_rises flag (bit_value level) self.now }
     {
-        (sub as u32 == flag::SP) & !legality::is_zero(v) & !self.has(flag::SP)
+        (u32::from(flag) == flag::SP) & level & !self.has(flag::SP)
     }
 
-    /// Kind 4.
+    /// Writes a flag by its bit; SP going from 0 to 1 loads.
     #[tactic(auto, unfolding(crate::specs::Events::flag_write))]
-    fn flag_write(&mut self, sub: u8, v: i32)
-        requires { sub < 32 }
-        ensures { self.new ≡ flag_write sub v self.old }
+    fn write_flag(&mut self, flag: u8, level: bool)
+        requires { flag < 32 }
+        ensures { self.new ≡ flag_write flag (bit_value level) self.old }
     {
-        if self.sp_rises(sub, v) {
+        if self.sp_rises(flag, level) {
             self.set(flag::SP);
             self.load();
         } else {
-            self.set_to(sub as u32, v);
+            self.put(u32::from(flag), level);
         }
     }
 
@@ -132,7 +71,7 @@ impl Counter {
         }
     }
 
-    /// Kind 8.
+    /// Enter run: empties the desk, and loads if AS is 1.
     #[tactic(auto, unfolding(crate::specs::Events::enter_run))]
     fn enter_run(&mut self)
         ensures { self.new ≡ enter_run self.old }
@@ -144,29 +83,38 @@ impl Counter {
         }
     }
 
-    /// Kind 9.
-    fn output_write(&mut self, v: i32)
-        ensures { self.new ≡ output_write v self.old }
+    /// Puts the program's word on the outputs that are not in active OMB.
+    fn put_program_word(&mut self, word: u16)
+        ensures { self.new
+            ≡ with_out (program_word self.old.active.omb word self.old.out) self.old }
     {
-        self.out = outputs::program_word(self.active.omb, word_of(v), self.out);
+        self.out = outputs::program_word(self.active.omb, word, self.out);
     }
 
-    /// The step of a legal event that is no sample, by its kind.
-    #[tactic(auto, unfolding(crate::specs::Events::control))]
-    fn control(&mut self, kind: u8, sub: u8, v: i32)
-        requires { legal kind sub v ≡ true }
-        ensures { self.new ≡ control kind sub v self.old }
+    /// Takes a legal event; a sample is taken by `sample`, and here it changes nothing.
+    #[tactic(auto, unfolding(crate::specs::Events::control, crate::specs::Events::staged_write, crate::specs::Events::staged, crate::specs::Events::device_write, crate::specs::Events::device))]
+    fn control(&mut self, event: Event)
+        requires { Legal event }
+        ensures { self.new ≡ controlled event self.old }
     {
-        match kind {
-            2 => self.staged_write(sub, v),
-            3 => self.device_write(sub, v),
-            4 => self.flag_write(sub, v),
-            5 => self.acc = v,
-            6 => self.preset_load(),
-            7 => self.routine_done(),
-            8 => self.enter_run(),
-            9 => self.output_write(v),
-            _ => {}
+        match event {
+            Event::Blank | Event::Sample(_) => {}
+            Event::StageHip(value) => self.staged.hip = value,
+            Event::StageLop(value) => self.staged.lop = value,
+            Event::StageOvf(value) => self.staged.ovf = value,
+            Event::StageUnf(value) => self.staged.unf = value,
+            Event::StageHpo(word) => self.staged.hpo = word,
+            Event::StageLpo(word) => self.staged.lpo = word,
+            Event::SetPfn(number) => self.staged.pfn = number,
+            Event::SetMode(number) => self.staged.mode = number,
+            Event::SetOmb(word) => self.staged.omb = word,
+            Event::SetAs(level) => self.put(flag::AS, level),
+            Event::Flag { flag, level } => self.write_flag(flag, level),
+            Event::SetAcc(value) => self.acc = value,
+            Event::LoadPresets => self.preset_load(),
+            Event::RoutineDone => self.routine_done(),
+            Event::EnterRun => self.enter_run(),
+            Event::Outputs(word) => self.put_program_word(word),
         }
     }
 
@@ -175,19 +123,20 @@ impl Counter {
     pub fn step_control(&mut self, kind: u8, sub: u8, v: i32)
         ensures { self.new ≡ step_control kind sub v self.old }
     {
-        if legality::legal(kind, sub, v) {
-            self.control(kind, sub, v);
+        if let Some(event) = Event::parse(kind, sub, v) {
+            self.control(event);
         }
     }
 
     /// Takes an event; one that is not legal changes nothing.
+    #[tactic(auto, unfolding(crate::specs::Events::step))]
     pub fn step(&mut self, kind: u8, sub: u8, v: i32)
         ensures { self.new ≡ step kind sub v self.old }
     {
-        if legality::is_sample(kind, sub, v) {
-            self.sample(levels_of(v));
-        } else {
-            self.step_control(kind, sub, v);
+        match Event::parse(kind, sub, v) {
+            Some(Event::Sample(levels)) => self.sample(levels),
+            Some(event) => self.control(event),
+            None => {}
         }
     }
 }

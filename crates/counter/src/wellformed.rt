@@ -2,7 +2,8 @@
 ghost use Rattle.std.specs.Prelude.{◌≡◌};
 ghost use Rattle.accumulator.specs.Causes.{cause_count};
 ghost use Rattle.counter.specs.Desk.{first, second};
-ghost use Rattle.counter.specs.WellFormed.{is_none, causes_formed, error_formed, active_formed, well_formed};
+ghost use Rattle.counter.specs.WellFormed.{is_none, causes_formed, error_formed, active_formed};
+ghost use Rattle.counter.specs.WellFormed.{well_formed};
 
 use crate::desk::{Desk, queued_of};
 use crate::outputs::OUTPUTS_END;
@@ -22,7 +23,8 @@ impl Desk {
     /// Each number is a cause's or 0, a second waits only with a first, a first only with one
     /// running, and two that wait differ.
     fn causes_formed(&self) -> bool
-        ensures { result ≡ causes_formed cause_count self.now.running (first self.now) (second self.now) }
+        ensures { result
+            ≡ causes_formed cause_count self.now.running (first self.now) (second self.now) }
     {
         let [first, second] = self.waiting;
         (self.running <= CAUSES)

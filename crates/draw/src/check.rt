@@ -1,4 +1,4 @@
-// What is refused before anything is written: a length, then an illegal event, then the snapshot.
+//! What is refused before anything is written: a length, then an illegal event, then the snapshot.
 ghost use Rattle.std.specs.Prelude.{◌≡◌, length};
 ghost use Rattle.refusal.specs.Refusals.{answer_of};
 ghost use Rattle.image.specs.Editions.{system};

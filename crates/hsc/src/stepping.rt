@@ -4,38 +4,38 @@ ghost use Rattle.snapshot.specs.Widths.{snapshot_size, event_size};
 ghost use Rattle.snapshot.specs.Snapshots.{encode, decode};
 ghost use Rattle.snapshot.specs.FormedBytes.{formed};
 ghost use Rattle.snapshot.specs.EventBytes.{step_event};
-ghost use Rattle.refusal.specs.Refusals.{verdict_of};
+ghost use Rattle.refusal.specs.Refusals.{answer_of};
 ghost use Rattle.hsc.specs.Calls.{event_verdict, step_verdict, step_answer, step_after};
 
-use refusal::{Refusal, Verdict, status_of};
+use refusal::{Refusal, status_of};
 use snapshot::event::legal_event;
 use snapshot::form::formed;
 use snapshot::{EVENT_SIZE, MOVING_SIZE, SNAPSHOT_SIZE, split};
 
 // Refusals 5 and 6, where every length is right.
-fn event_verdict(snapshot: &[u8], event: &[u8]) -> Verdict
+fn event_verdict(snapshot: &[u8], event: &[u8]) -> Result<(), Refusal>
     requires { (length snapshot.now ≡ snapshot_size) × (length event.now ≡ event_size) }
-    ensures { verdict_of result ≡ event_verdict snapshot.now event.now }
+    ensures { answer_of result ≡ event_verdict snapshot.now event.now }
 {
     if !legal_event(event, 0) {
-        return Verdict::Refused(Refusal::Event(0));
+        return Err(Refusal::Event(0));
     }
     if !formed(snapshot, 0) {
-        return Verdict::Refused(Refusal::Snapshot(0));
+        return Err(Refusal::Snapshot(0));
     }
-    Verdict::Accepted
+    Ok(())
 }
 
 // What a step comes to.
 #[tactic(auto, unfolding(crate::specs::Calls::step_verdict))]
-fn step_verdict(snapshot: &[u8], event: &[u8]) -> Verdict
-    ensures { verdict_of result ≡ step_verdict snapshot.now event.now }
+fn step_verdict(snapshot: &[u8], event: &[u8]) -> Result<(), Refusal>
+    ensures { answer_of result ≡ step_verdict snapshot.now event.now }
 {
     if snapshot.len() != SNAPSHOT_SIZE {
-        return Verdict::Refused(Refusal::Size);
+        return Err(Refusal::Size);
     }
     if event.len() != EVENT_SIZE {
-        return Verdict::Refused(Refusal::Size);
+        return Err(Refusal::Size);
     }
     event_verdict(snapshot, event)
 }
@@ -57,9 +57,9 @@ pub fn hsc_step(snapshot: &mut [u8], event: &[u8]) -> u64
     ensures status { result ≡ step_answer snapshot.old event.now }
     ensures snapshot { snapshot.new ≡ step_after snapshot.old event.now }
 {
-    let status = status_of(step_verdict(snapshot, event));
-    if status == 0 {
+    let verdict = step_verdict(snapshot, event);
+    if verdict.is_ok() {
         step_over(snapshot, event);
     }
-    status
+    status_of(verdict)
 }

@@ -7,16 +7,14 @@ use Prim.Native.Nat.{ℕ, ◌≤◌}
 use borrow.Author.Tests.{eq-eqb}
 use lib.Dec.{eqb}
 use Rattle.word.specs.Masks.{bit}
-use Rattle.word.specs.Part.{part}
 use Rattle.counter.specs.declared.state.Counter.{Counter}
 use Rattle.counter.specs.Desk.{first, second}
-use Rattle.counter.specs.WellFormed.{parts_formed, well_formed}
+use Rattle.counter.specs.WellFormed.{well_formed}
 use Rattle.counter.proofs.Masked.{mask-formed}
 use Rattle.counter.proofs.Merging.{equal-formed}
-use Rattle.snapshot.specs.Widths.{snapshot_size}
 use Rattle.snapshot.specs.Snapshots.{decode, state_at}
 use Rattle.snapshot.specs.FormedBytes.{formed_at, formed}
-use Rattle.snapshot.proofs.Offsets.{decode-places, decode-part}
+use Rattle.snapshot.proofs.Offsets.{decode-places}
 
 pub formed-decode : (b : List ℕ) → formed b ≡ well_formed (decode b)
 unfolding formed well_formed

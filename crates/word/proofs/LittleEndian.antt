@@ -1,5 +1,5 @@
 -- Laws of little-endian numbers, once over the count of bytes: the length, the bound, both round trips, and a number in two parts.
-use mathlib.Core.Path.{◌≡◌, refl, sym, ap, ◌∙◌}
+use mathlib.Core.Path.{◌≡◌, refl, ap, ◌∙◌}
 use mathlib.Core.List.{List, [], ◌∷◌}
 use Prim.Native.Nat.{ℕ, zero, suc, ◌+◌, ◌*◌, ◌/◌, ◌%◌, ◌^◌, ◌<◌, ◌≤◌}
 use native.Mathlib.Nat.{pow-suc, mod-lt, zero-add, add-zero, suc-add, add_assoc, div-div-eq-div-mul}
@@ -90,9 +90,6 @@ number_at-suc s at k h = rw (drop-cons s at 0 h)
 -- the number in one byte
 pub number_at-one : (s : List ℕ) (at : ℕ) → at < length s → number_at s at 1 ≡ get_or s at 0
 number_at-one s at h = number_at-suc s at 0 h ∙ rw (number_at-zero s (suc at) refl) (omega arith)
-
-pub byte-at : (s : List ℕ) (at n : ℕ) → at + n ≤ length s → (k : ℕ) → k < n → get_or s (at + k) 0 ≡ number_at s (at + k) 1
-byte-at s at n h k b = sym (number_at-one s (at + k) (omega arith))
 
 -- the number in a + b bytes: the first a of them, and the b bytes after
 pub number_at-add : (s : List ℕ) (at a b : ℕ) → at + a ≤ length s → number_at s at (a + b) ≡ number_at s at a + 256 ^ a * number_at s (at + a) b

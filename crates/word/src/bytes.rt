@@ -1,6 +1,6 @@
 //! Little-endian numbers in a lent slice: read or written at a byte offset.
 ghost use Rattle.std.specs.Prelude.{◌≡◌, ℕ, ◌+◌, ◌<◌, ◌^◌, ◌≤◌, length};
-ghost use Rattle.std.specs.Int.{w16, w32, w64};
+ghost use Rattle.std.specs.Int.{w8, w16, w32, w64};
 ghost use Rattle.std.proofs.Common.{Fits, SFits};
 ghost use Rattle.word.specs.Part.{put};
 ghost use Rattle.word.specs.LittleEndian.{to_bytes, number_at, itself, same-bits-back, same-number-back};
@@ -35,6 +35,34 @@ pub trait LittleEndian: Copy {
 
     // What is written and read back is the same number.
     ghost number_back: { (x : Self) → in_range x → of_bits (bits x) ≡ x };
+}
+
+impl LittleEndian for u8 {
+    ghost width = { 1 };
+
+    ghost of_bits = { itself };
+
+    ghost bits = { itself };
+
+    ghost in_range = { Fits w8 };
+
+    ghost bytes_back = { same-bits-back 1 };
+
+    ghost number_back = { same-number-back w8 };
+
+    fn read(bytes: &[u8], at: usize) -> u8
+        requires { at + 1 ≤ length bytes.now }
+        ensures { result ≡ number_at bytes.now at 1 }
+    {
+        bytes[at]
+    }
+
+    fn write(self, bytes: &mut [u8], at: usize)
+        requires { at + 1 ≤ length bytes.old }
+        ensures { bytes.new ≡ put bytes.old at (to_bytes 1 self) }
+    {
+        bytes[at] = self;
+    }
 }
 
 impl LittleEndian for u16 {

@@ -9,4 +9,4 @@ use Rattle.snapshot.proofs.form.formed.Goals as goal
 pub returns : goal.returns
 returns c =
     let snapshot = part c.args.s.now c.args.at snapshot_size in
-    c.is_well_formed.ensures ∙ ap well_formed c.decode.ensures ∙ sym (formed-decode snapshot)
+    c.is_well_formed.ensures ∙ ap well_formed c.decode-c.ensures ∙ sym (formed-decode snapshot)

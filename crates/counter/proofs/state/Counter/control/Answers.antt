@@ -2,13 +2,13 @@
 use mathlib.Core.Path.{◌≡◌}
 use mathlib.Core.Bool.{true}
 use native.Mathlib.Omega.{arith}
-use Rattle.counter.specs.Events.{legal_flag, legal}
+use Rattle.counter.specs.Events.{legal_flag, legal, bit_value}
 use Rattle.counter.proofs.Legal.{flag-below}
 use Rattle.counter.proofs.state.Counter.control.Goals as goal
 
-pub flag_write-requires : goal.flag_write-requires
+pub write_flag-requires : goal.write_flag-requires
 unfolding legal
-flag_write-requires c =
-    let a = c.args in
-    let flag : legal_flag a.sub a.v ≡ true = rw c.in-4.is at c.requires in
-    omega (arith, flag-below a.sub a.v flag)
+write_flag-requires c =
+    let write = c.in-Flag in
+    let flag : legal_flag write.flag (bit_value write.level) ≡ true = rw write.is at c.requires in
+    omega (arith, flag-below write.flag (bit_value write.level) flag)

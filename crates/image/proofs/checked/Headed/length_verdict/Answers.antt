@@ -11,6 +11,7 @@ use Rattle.image.specs.Verdicts.{length_verdict}
 use Rattle.image.proofs.Headers.{Headed, header-passed}
 use Rattle.image.proofs.checked.Headed.length_verdict.Goals as goal
 
+-- where the table ends, by the count and the spacing that were read
 ends : (image : List ℕ) → Headed image → {e k : ℕ} → e ≡ event_count image → k ≡ spacing_of image
     → snapshot_place (system_of image) (shape_of image) (e / k + 1) ≡ snapshot_offset image + snapshot_count image * (system_of image).size
 ends image h q r = rw (q, r, h.offsets.table, h.offsets.counted) (omega arith)
@@ -24,11 +25,6 @@ pub overflow_add-self : goal.overflow_add-self
 overflow_add-self c =
     let self = c.args.self.now in
     omega (arith, (header-passed _ self.passes).limits.few, self.count_told, div-le_self self.count self.spacing)
-
-pub snapshot_at-requires : goal.snapshot_at-requires
-snapshot_at-requires c =
-    let self = c.args.self.now in
-    rw (self.count_told, self.spacing_told) (omega arith)
 
 pub returns-then-self-snapshot_at : goal.returns-then-self-snapshot_at
 unfolding length_verdict

@@ -14,8 +14,3 @@ snapshot_place-requires c =
     omega (arith, few, c.requires, div-le_self (event_count self.image.now) (spacing_of self.image.now)) in
     let table = mul-le-mul count c.size.ensures.1 in
     omega (arith, few, self.count_told, table)
-
-pub returns : goal.returns
-returns c =
-    let self = c.args.self.now in
-    rw (c.snapshot_place.ensures, self.count_told, c.size.ensures.0, self.edition_told)

@@ -1,4 +1,4 @@
--- `report::office::answer` meets its contract: the line is that of what replay answered; a replayed image keeps its header, and the lent
+-- `report::office::office_line` meets its contract: the line is that of what replay answered; a replayed image keeps its header, and the lent
 -- bytes hold the final state.
 use mathlib.Core.Path.{◌≡◌, ap, ap₂, ◌∙◌}
 use mathlib.Core.List.{List}
@@ -18,7 +18,7 @@ use Rattle.image.proofs.Accepted.{trace-passed}
 use Rattle.image_replay.proofs.Theorem.{replay-length, replay-number, final-decoded, final-length}
 use Rattle.counter.specs.declared.state.Counter.{Counter}
 use Rattle.report.specs.Office.{line_of}
-use Rattle.report.proofs.office.answer.Goals as goal
+use Rattle.report.proofs.office.office_line.Goals as goal
 
 pub accepted_line-requires : goal.accepted_line-requires
 accepted_line-requires c =
@@ -27,7 +27,7 @@ accepted_line-requires c =
     let bytes : Bytes image =
     λ i. (c.slice_known-1.given i).fits in
     let valid : ValidTrace image =
-    accepted-answer c.replay.result (replay_verdict image) c.replay.ensures.answer c.in-Accepted.is in
+    accepted-answer c.replay.result (replay_verdict image) c.replay.ensures.answer c.in-Ok.is in
     let long : header_size ≤ length c.replay.new.image =
     omega (
       arith,
@@ -39,10 +39,10 @@ accepted_line-requires c =
     c.replay.new.last in
     let whole : length last ≡ snapshot_size =
     ap length c.replay.ensures.last ∙ final-length image bytes valid _ (omega arith) in
-    (long, omega (arith, whole), c.requires)
+    (long, omega (arith, whole))
 
-pub returns-in-Accepted : goal.returns-in-Accepted
-returns-in-Accepted c =
+pub returns-in-Ok : goal.returns-in-Ok
+returns-in-Ok c =
     let last : List ℕ =
     c.replay.new.last in
     let image : List ℕ =
@@ -50,7 +50,7 @@ returns-in-Accepted c =
     let bytes : Bytes image =
     λ i. (c.slice_known-1.given i).fits in
     let valid : ValidTrace image =
-    accepted-answer c.replay.result (replay_verdict image) c.replay.ensures.answer c.in-Accepted.is in
+    accepted-answer c.replay.result (replay_verdict image) c.replay.ensures.answer c.in-Ok.is in
     let kept : (at : ℕ) → at + 4 ≤ header_size → number_at c.replay.new.image at 4 ≡ number_at image at 4 =
     λ at h. ap (λ (l : List ℕ). number_at l at 4) c.replay.ensures.image ∙ replay-number image bytes valid at h in
     let line : Answer Counter → List ℕ =
@@ -59,7 +59,7 @@ returns-in-Accepted c =
     replay_verdict image and_then given (final_state image) in
     let given-answered : given (decode (part last 0 snapshot_size)) ≡ answered =
     let state = ap (λ (l : List ℕ). decode (part l 0 snapshot_size)) c.replay.ensures.last ∙ final-decoded image bytes valid _ in
-    accepted-then c.replay.result (replay_verdict image) c.replay.ensures.answer c.in-Accepted.is (ap given state) in
+    accepted-then c.replay.result (replay_verdict image) c.replay.ensures.answer c.in-Ok.is (ap given state) in
     let state = given (decode (part last 0 snapshot_size)) in
     let counts = ap₂ (λ (a b : ℕ). line_of a b state) (kept 0 (omega arith)) (kept 8 (omega arith)) in
-    record { line = c.accepted_line.ensures.line ∙ counts ∙ ap line given-answered; within = c.accepted_line.ensures.within }
+    c.accepted_line.ensures ∙ counts ∙ ap line given-answered
