@@ -10,9 +10,8 @@ use lib.IntN.{ℤ, pos, ◌+ℤ◌, ◌-ℤ◌}
 use lib.Signed.{le_z}
 use Rattle.word.specs.TwosComplement.{eq_z}
 use Rattle.word.proofs.Branches.{eq_z-refl, eq_z-true}
-use Rattle.accumulator.specs.declared.Counted.{Counted}
 use Rattle.accumulator.specs.Causes.{low_preset, high_preset, underflow, overflow}
-use Rattle.accumulator.specs.Count.{up, down}
+use Rattle.accumulator.specs.Count.{Counted, up, down}
 
 -- ---- one of three causes
 

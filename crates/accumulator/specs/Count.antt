@@ -2,8 +2,17 @@
 use Rattle.std.specs.Prelude.{Bool, cond, ℕ, ℤ, pos, ◌+ℤ◌, ◌-ℤ◌}
 use Rattle.std.specs.Int.Signed.{le_z}
 use Rattle.word.specs.TwosComplement.{eq_z}
-use Rattle.accumulator.specs.declared.Counted.{Counted}
-use Rattle.accumulator.specs.Causes.{low_preset, high_preset, underflow, overflow}
+use Rattle.accumulator.specs.declared.Counted as code
+use Rattle.accumulator.specs.Causes.{low_preset, high_preset, underflow, overflow, cause_number}
+
+-- ACC after a count, and the number of the cause that it raises, 0 for none
+pub record Counted : Type 0 where
+  pub acc : ℤ
+  pub cause : ℕ
+
+-- what code answers
+abbrev pub counted_of : code.Counted → Counted
+counted_of r = record { acc = r.acc; cause = cause_number r.cause }
 
 abbrev pub counted : ℤ → ℕ → Counted
 counted acc cause = record { acc = acc; cause = cause }

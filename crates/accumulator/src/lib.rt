@@ -1,66 +1,67 @@
-// One count of the accumulator.
+//! One count of the accumulator, ACC.
 #![tactic(auto)]
 
 ghost use Rattle.std.specs.Prelude.{◌≡◌};
-ghost use Rattle.accumulator.specs.Count.{up, down};
+ghost use Rattle.accumulator.specs.Count.{up, down, counted_of};
 
-// ACC after a count, and the cause that the count raises, 0 for none.
-#[derive(Clone, Copy)]
+pub mod cause;
+
+use cause::Cause;
+
+/// ACC after a count, and the cause that the count raises, if there is one.
+#[derive(Clone, Copy, Debug, PartialEq, Eq)]
 pub struct Counted {
     pub acc: i32,
-    pub cause: u8,
+    pub cause: Option<Cause>,
 }
 
-// A count up. In modes 0 and 1 (`single`) ACC goes on from 0.
+/// One count up. Past OVF it goes on from UNF, or from 0 in modes 0 and 1 (`single`).
 #[tactic(auto, unfolding(crate::specs::Count::up))]
 pub fn up(single: bool, acc: i32, hip: i32, ovf: i32, unf: i32) -> Counted
-    ensures { result ≡ up single acc hip ovf unf }
+    ensures { counted_of result ≡ up single acc hip ovf unf }
 {
     if ovf <= acc {
+        let cause = Some(Cause::Overflow);
         if single {
-            Counted { acc: 0, cause: 4 }
+            Counted { acc: 0, cause }
         } else {
-            Counted { acc: unf, cause: 4 }
+            Counted { acc: unf, cause }
         }
     } else {
         let next = acc + 1;
         if next == hip {
+            let cause = Some(Cause::HighPreset);
             if single {
-                Counted { acc: 0, cause: 2 }
+                Counted { acc: 0, cause }
             } else {
-                Counted {
-                    acc: next,
-                    cause: 2,
-                }
+                Counted { acc: next, cause }
             }
         } else {
             Counted {
                 acc: next,
-                cause: 0,
+                cause: None,
             }
         }
     }
 }
 
-// A count down.
+/// One count down. Past UNF it goes on from OVF.
 #[tactic(auto, unfolding(crate::specs::Count::down))]
 pub fn down(acc: i32, lop: i32, ovf: i32, unf: i32) -> Counted
-    ensures { result ≡ down acc lop ovf unf }
+    ensures { counted_of result ≡ down acc lop ovf unf }
 {
     if acc <= unf {
-        Counted { acc: ovf, cause: 3 }
+        Counted {
+            acc: ovf,
+            cause: Some(Cause::Underflow),
+        }
     } else {
         let next = acc - 1;
-        if next == lop {
-            Counted {
-                acc: next,
-                cause: 1,
-            }
+        let cause = if next == lop {
+            Some(Cause::LowPreset)
         } else {
-            Counted {
-                acc: next,
-                cause: 0,
-            }
-        }
+            None
+        };
+        Counted { acc: next, cause }
     }
 }

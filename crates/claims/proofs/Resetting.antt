@@ -6,9 +6,8 @@ use Prim.Native.Nat.{ℕ}
 use lib.IntN.{pos}
 use Rattle.word.specs.Masks.{bit, set_bit}
 use Rattle.counter.specs.declared.state.Counter.{Counter}
-use Rattle.counter.specs.declared.state.Count.TheVariants.{None}
 use Rattle.counter.specs.Parts.{CE, LOADED, with_acc, with_levels, flag, mode}
-use Rattle.counter.specs.Sample.{rises, falls, has_reset, by_phase, resets, may_count, count, sample}
+use Rattle.counter.specs.Sample.{None, rises, falls, has_reset, by_phase, resets, may_count, count, sample}
 use Rattle.counter.proofs as counter
 
 -- ---- mode 7

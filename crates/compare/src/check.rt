@@ -1,4 +1,4 @@
-// What is refused of two traces: a length, then an illegal event of the first, then one of the second.
+//! What is refused of two traces: a length, then an illegal event of the first, then one of the second.
 ghost use Rattle.std.specs.Prelude.{◌≡◌, ◌≤◌};
 ghost use Rattle.refusal.specs.declared.Trace.TheVariants.{First};
 ghost use Rattle.refusal.specs.Refusals.{given, answer_of, ◌and_then◌};
@@ -7,8 +7,7 @@ ghost use Rattle.image.specs.Rows.{events_in};
 ghost use Rattle.image.specs.Verdicts.{events_verdict};
 ghost use Rattle.compare.specs.Comparing.{bad_length, lengths_verdict, trace_verdict};
 
-use image::edition::Edition;
-use image::events::first_illegal;
+use image::edition::{Edition, first_illegal};
 use image::header::MAX_EVENTS;
 use refusal::{Refusal, Trace};
 use snapshot::EVENT_SIZE;
@@ -31,7 +30,7 @@ fn lengths_verdict(first: &[u8], second: &[u8]) -> Result<(), Refusal>
     Ok(())
 }
 
-// Refusal 5 of one of two traces, whose first count events are legal.
+/// Refuses one of two traces, whose first `count` events are legal, by 5 at its first illegal event.
 pub fn trace_verdict(t: Trace, trace: &[u8], count: usize) -> Result<(), Refusal>
     requires { (count ≤ events_in trace.now) × (events_verdict base 5 trace.now 0 count ≡ given tt) }
     ensures { answer_of result ≡ trace_verdict t trace.now }
@@ -44,7 +43,7 @@ pub fn trace_verdict(t: Trace, trace: &[u8], count: usize) -> Result<(), Refusal
     Ok(())
 }
 
-// Refusals 9, and 5 of the first trace.
+/// Refuses two traces by 9, and then the first of them by 5.
 pub fn first_verdict(first: &[u8], second: &[u8]) -> Result<(), Refusal>
     ensures { answer_of result ≡ (lengths_verdict first.now second.now and_then trace_verdict First first.now) }
 {

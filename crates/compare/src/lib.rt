@@ -1,17 +1,17 @@
-// Two traces side by side: the places where they differ, into a lent row, and the rest of the longer.
+//! Two traces side by side: the places where they differ, into a lent row, and the rest of the longer.
 #![tactic(auto)]
 
 ghost use Rattle.std.specs.Prelude.{◌≡◌, length};
 ghost use Rattle.refusal.specs.declared.Trace.TheVariants.{First};
 ghost use Rattle.refusal.specs.Refusals.{answer_of, given, ◌and_then◌};
 ghost use Rattle.compare.specs.Places.{differing, shared};
-ghost use Rattle.compare.specs.Comparing.{lengths_verdict, trace_verdict, traces_verdict, compare_answer, compare_row};
+ghost use Rattle.compare.specs.Comparing.{lengths_verdict, trace_verdict, traces_verdict};
+ghost use Rattle.compare.specs.Comparing.{compare_answer, compare_row};
 
 use crate::check::{first_verdict, trace_verdict};
 use crate::places::{count_differences, write_differences};
 use refusal::{Refusal, Trace};
 use snapshot::EVENT_SIZE;
-use word::parts::shorter;
 
 mod check;
 mod places;
@@ -43,7 +43,7 @@ fn compare_second(first: &[u8], second: &[u8], row: &mut [u32]) -> Result<usize,
     ensures answer { answer_of result ≡ compare_answer first.now second.now (length row.old) }
     ensures row { row.new ≡ compare_row first.now second.now row.old }
 {
-    let count = shorter(first.len() / EVENT_SIZE, second.len() / EVENT_SIZE);
+    let count = (first.len() / EVENT_SIZE).min(second.len() / EVENT_SIZE);
     let n = count_differences(first, second, count)?;
     trace_verdict(Trace::Second, second, count)?;
     list(first, second, count, n, row)

@@ -11,8 +11,8 @@ use Rattle.word.proofs.Branches.{cond-cases}
 use Rattle.accumulator.specs.Causes.{low_preset, high_preset, underflow, overflow}
 use Rattle.counter.specs.declared.desk.Outcome.{Outcome}
 use Rattle.counter.specs.declared.desk.Outcome.TheVariants.{Starts, Waits, Lost}
-use Rattle.counter.specs.declared.desk.Next.{Next}
-use Rattle.counter.specs.declared.desk.Next.TheVariants.{Cause, Nothing}
+use Rattle.counter.specs.Desk.{Next}
+use Rattle.counter.specs.Desk.{Cause, Nothing}
 use Rattle.counter.specs.Parts.{UIL, ED, LOADED, DIR, UF, OF, MD, LPI, HPI, UFI, OFI}
 use Rattle.counter.specs.Interrupts.{quiet, started, posted_flags, finished_flags}
 use Rattle.counter.specs.Sample.{up_flags, down_flags}

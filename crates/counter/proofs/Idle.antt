@@ -6,8 +6,8 @@ use native.Mathlib.Omega.{arith}
 use borrow.Author.Tests.{eqb-true, eqb-false, not-true}
 use lib.Dec.{eqb, ltb, lit<}
 use Rattle.counter.specs.declared.state.Counter.{Counter}
-use Rattle.counter.specs.declared.state.Count.{Count}
-use Rattle.counter.specs.declared.state.Count.TheVariants.{None}
+use Rattle.counter.specs.Sample.{Count}
+use Rattle.counter.specs.Sample.{None}
 use Rattle.counter.specs.Parts.{LOADED, flag, mode}
 use Rattle.counter.specs.Sample.{rises, has_reset, alone_up, by_level, by_input, direction}
 use Rattle.counter.specs.Sample.{unmoved, counted_by, resets, may_count, count, sampled}

@@ -3,7 +3,7 @@ use Prim.Native.Nat.{ℕ}
 use Rattle.accumulator.specs.Causes.{cause_count}
 use Rattle.counter.specs.declared.desk.Desk.{Desk}
 use Rattle.counter.specs.declared.desk.Outcome.{Outcome}
-use Rattle.counter.specs.declared.desk.Next.{Next}
+use Rattle.counter.specs.Desk.{Next}
 use Rattle.counter.specs.declared.state.Counter.{Counter}
 use Rattle.counter.specs.Desk.{post, finish}
 use Rattle.counter.specs.Parts.{with_desk}

@@ -9,7 +9,7 @@ use lib.Dec.{eqb, ltb}
 use lib.ListN.{length, get_or, set, length-set}
 use Rattle.counter.specs.declared.desk.Desk.{Desk}
 use Rattle.counter.specs.declared.desk.Outcome.TheVariants.{Starts, Waits, Lost}
-use Rattle.counter.specs.declared.desk.Next.TheVariants.{Cause, Nothing}
+use Rattle.counter.specs.Desk.{Cause, Nothing}
 use Rattle.counter.specs.Desk.{first, second, queued_of, waits, starting, waiting, posted, post, resting, advancing, finished, finish}
 
 -- ---- the queue alone

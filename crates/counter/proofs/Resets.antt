@@ -8,9 +8,9 @@ use Rattle.word.specs.Masks.{bit, set_bit}
 use Rattle.word.proofs.Masks.{bit-set_bit}
 use Rattle.word.proofs.Branches.{cond-cases}
 use Rattle.counter.specs.declared.state.Counter.{Counter}
-use Rattle.counter.specs.declared.state.Count.{Count}
-use Rattle.counter.specs.declared.state.Count.TheVariants.{None}
-use Rattle.counter.specs.declared.state.Sampled.{Sampled}
+use Rattle.counter.specs.Sample.{Count}
+use Rattle.counter.specs.Sample.{None}
+use Rattle.counter.specs.Sample.{Sampled}
 use Rattle.counter.specs.Parts.{CE, LOADED, with_acc, with_levels, flag, mode}
 use Rattle.counter.specs.Sample.{rises, falls, has_reset, reset_by, inhibited, by_phase, direction}
 use Rattle.counter.specs.Sample.{unmoved, counted_by, resets, may_count, count, sampled, applied, sample}

@@ -15,13 +15,13 @@ use Rattle.word.proofs.Branches.{cond-cases}
 use Rattle.accumulator.specs.Causes.{low_preset, high_preset, underflow, overflow, cause_count}
 use Rattle.accumulator.proofs.Landing.{up-cause, down-cause}
 use Rattle.counter.specs.declared.desk.Desk.{Desk}
-use Rattle.counter.specs.declared.desk.Posted.{Posted}
+use Rattle.counter.specs.Desk.{Posted}
 use Rattle.counter.specs.declared.desk.Outcome.TheVariants.{Waits}
 use Rattle.counter.specs.declared.state.Settings.{Settings}
 use Rattle.counter.specs.declared.state.Counter.{Counter}
-use Rattle.counter.specs.declared.state.Sampled.{Sampled}
-use Rattle.counter.specs.declared.state.Count.{Count}
-use Rattle.counter.specs.declared.state.Count.TheVariants.{None, Up, Down}
+use Rattle.counter.specs.Sample.{Sampled}
+use Rattle.counter.specs.Sample.{Count}
+use Rattle.counter.specs.Sample.{None, Up, Down}
 use Rattle.counter.specs.Desk.{first, second, waits, posted, post}
 use Rattle.counter.specs.Parts.{UIL, with_acc, with_flags, with_levels, flag, up_only, mode}
 use Rattle.counter.specs.Interrupts.{enabled, interrupt, raise}

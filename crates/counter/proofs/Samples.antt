@@ -14,15 +14,15 @@ use Rattle.word.specs.Masks.{bit, merge}
 use Rattle.word.specs.TwosComplement.{eq_z}
 use Rattle.word.proofs.Masks.{merge-lt}
 use Rattle.word.proofs.Branches.{cond-cases}
-use Rattle.accumulator.specs.declared.Counted.{Counted}
+use Rattle.accumulator.specs.Count.{Counted}
 use Rattle.accumulator.specs.Causes.{low_preset, high_preset, overflow, cause_count}
 use Rattle.accumulator.specs.Count.{counted, up, down}
 use Rattle.accumulator.proofs.Limits.{up-fits, down-fits}
 use Rattle.counter.specs.declared.desk.Desk.{Desk}
 use Rattle.counter.specs.declared.state.Counter.{Counter}
-use Rattle.counter.specs.declared.state.Sampled.{Sampled}
-use Rattle.counter.specs.declared.state.Count.{Count}
-use Rattle.counter.specs.declared.state.Count.TheVariants.{None, Up, Down}
+use Rattle.counter.specs.Sample.{Sampled}
+use Rattle.counter.specs.Sample.{Count}
+use Rattle.counter.specs.Sample.{None, Up, Down}
 use Rattle.counter.specs.Parts.{FE, UIE, with_acc, with_flags, with_levels, with_desk, up_only, mode}
 use Rattle.counter.specs.Interrupts.{output_mask, preset_word, cause_word, unmasked, enabled, with_outputs, raise}
 use Rattle.counter.specs.Sample.{up_of, down_of, sampled_as, unmoved, counted_by, resets, may_count, count, sampled, sample}

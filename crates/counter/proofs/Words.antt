@@ -13,9 +13,9 @@ use Rattle.word.proofs.Masks.{bit-merge, bit-mod, bit-above}
 use Rattle.accumulator.specs.Causes.{low_preset, high_preset}
 use Rattle.counter.specs.declared.state.Settings.{Settings}
 use Rattle.counter.specs.declared.state.Counter.{Counter}
-use Rattle.counter.specs.declared.state.Sampled.{Sampled}
-use Rattle.counter.specs.declared.state.Count.{Count}
-use Rattle.counter.specs.declared.state.Count.TheVariants.{None, Up, Down}
+use Rattle.counter.specs.Sample.{Sampled}
+use Rattle.counter.specs.Sample.{Count}
+use Rattle.counter.specs.Sample.{None, Up, Down}
 use Rattle.counter.specs.Parts.{with_staged, with_acc, with_flags, with_levels}
 use Rattle.counter.specs.Interrupts.{output_mask, preset_word, cause_word, enabled, interrupt, with_outputs, raise}
 use Rattle.counter.specs.Sample.{counted_by, resets, may_count, count, sampled, applied, sample}

@@ -3,8 +3,8 @@ use Rattle.std.specs.Prelude.{Bool, not, ◌&&◌, List, [], ◌∷◌, ℕ, eqb
 use Rattle.word.specs.TwosComplement.{eq_z}
 use Rattle.accumulator.specs.Causes.{low_preset, high_preset, underflow, overflow}
 use Rattle.counter.specs.declared.state.Counter.{Counter}
-use Rattle.counter.specs.declared.state.Count.{Count}
-use Rattle.counter.specs.declared.state.Count.TheVariants.{Up, Down}
+use Rattle.counter.specs.Sample.{Count}
+use Rattle.counter.specs.Sample.{Up, Down}
 use Rattle.counter.specs.Desk.{desk_of, first, second}
 use Rattle.counter.specs.Parts.{UIE, UIL, FE, LPI, HPI, OF, MD, LOADED, with_active, with_acc}
 use Rattle.counter.specs.Parts.{with_out, with_desk, flag, on, fresh}

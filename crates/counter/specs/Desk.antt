@@ -1,13 +1,9 @@
 -- Document 01, "One input sample", last paragraph, with document 02's request 7, and event kind 7: the running cause and the waiting ones.
 -- A cause is any number but 0, which stands for none.
-use Rattle.std.specs.Prelude.{Bool, cond, ◌||◌, List, [], ◌∷◌, ℕ, ◌+◌, ◌-◌, eqb, ltb, get_or, set}
+use Rattle.std.specs.Prelude.{Bool, cond, ◌||◌, List, [], ◌∷◌, ℕ, ◌+◌, ◌-◌, eqb, ltb, get_or, set, Option, Some, None}
 use Rattle.counter.specs.declared.desk.Desk.{Desk}
-use Rattle.counter.specs.declared.desk.Posted.{Posted}
-use Rattle.counter.specs.declared.desk.Finished.{Finished}
 use Rattle.counter.specs.declared.desk.Outcome.{Outcome}
 use Rattle.counter.specs.declared.desk.Outcome.TheVariants.{Starts, Waits, Lost}
-use Rattle.counter.specs.declared.desk.Next.{Next}
-use Rattle.counter.specs.declared.desk.Next.TheVariants.{Cause, Nothing}
 
 -- the running cause, and the waiting ones beside their number
 abbrev pub desk_of : ℕ → List ℕ → ℕ → Desk
@@ -39,6 +35,11 @@ starting cause d = desk_of cause d.waiting d.queued
 abbrev pub waiting : ℕ → Desk → Desk
 waiting cause d = desk_of d.running (set d.waiting d.queued cause) (d.queued + 1)
 
+-- the desk after a cause is posted, and what became of the cause
+pub record Posted : Type 0 where
+  pub desk : Desk
+  pub outcome : Outcome
+
 abbrev pub posted : Desk → Outcome → Posted
 posted d outcome = record { desk = d; outcome = outcome }
 
@@ -57,6 +58,21 @@ resting d = desk_of 0 d.waiting d.queued
 -- the first waiting cause runs, the second moves up
 abbrev pub advancing : Desk → Desk
 advancing d = desk_of (first d) (second d ∷ 0 ∷ []) (d.queued - 1)
+
+-- what starts when a routine is done
+pub data Next : Type 0 where
+  Cause : ℕ → Next
+  Nothing : Next
+
+-- what code answers
+abbrev pub next_of : Option ℕ → Next
+next_of (Some cause) = Cause cause
+next_of None = Nothing
+
+-- the desk after a routine is done, and what starts
+pub record Finished : Type 0 where
+  pub desk : Desk
+  pub next : Next
 
 abbrev pub finished : Desk → Next → Finished
 finished d next = record { desk = d; next = next }

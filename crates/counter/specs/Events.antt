@@ -1,9 +1,12 @@
 -- Document 01, "Events, 12 bytes, little-endian", on a decoded event: which events are legal, and the step of each kind.
-use Rattle.std.specs.Prelude.{Bool, true, false, cond, not, ◌&&◌, ◌||◌, ℕ, ◌%◌, eqb, leb, ℤ, pos, negsuc}
+use Rattle.std.specs.Prelude.{◌≡◌, Option, Some, None, Bool, true, false, cond, not, ◌&&◌, ◌||◌, ℕ, ◌%◌, eqb, leb, ℤ, pos, negsuc}
 use Rattle.std.specs.Int.Signed.{le_z}
 use Rattle.std.specs.Int.{w16, w32}
 use Rattle.word.specs.Masks.{merge}
 use Rattle.word.specs.TwosComplement.{signed, unsigned, eq_z}
+use Rattle.counter.specs.declared.event.Event.{Event}
+use Rattle.counter.specs.declared.event.Event.TheVariants.{Blank, Sample, StageHip, StageLop, StageOvf, StageUnf, StageHpo, StageLpo}
+use Rattle.counter.specs.declared.event.Event.TheVariants.{SetPfn, SetMode, SetOmb, SetAs, Flag, SetAcc, LoadPresets, RoutineDone, EnterRun, Outputs}
 use Rattle.counter.specs.declared.state.Settings.{Settings}
 use Rattle.counter.specs.declared.state.Counter.{Counter}
 use Rattle.counter.specs.Desk.{empty}
@@ -72,6 +75,48 @@ legal kind sub v =
 -- a legal input sample
 abbrev pub is_sample : ℕ → ℕ → ℤ → Bool
 is_sample kind sub v = eqb kind 1 && eqb sub 0 && is_levels v
+
+-- ---- a legal event as code holds it
+
+-- kind, sub and value
+pub record Numbers : Type 0 where
+  pub kind : ℕ
+  pub sub : ℕ
+  pub value : ℤ
+
+abbrev pub numbers : ℕ → ℕ → ℤ → Numbers
+numbers kind sub v = record { kind = kind; sub = sub; value = v }
+
+abbrev pub bit_value : Bool → ℤ
+bit_value level = pos (cond level 1 0)
+
+abbrev pub numbers_of : Event → Numbers
+numbers_of Blank = numbers 0 0 (pos 0)
+numbers_of (Sample levels) = numbers 1 0 (pos levels)
+numbers_of (StageHip v) = numbers 2 1 v
+numbers_of (StageLop v) = numbers 2 2 v
+numbers_of (StageOvf v) = numbers 2 3 v
+numbers_of (StageUnf v) = numbers 2 4 v
+numbers_of (StageHpo w) = numbers 2 5 (pos w)
+numbers_of (StageLpo w) = numbers 2 6 (pos w)
+numbers_of (SetPfn v) = numbers 3 1 v
+numbers_of (SetMode v) = numbers 3 2 v
+numbers_of (SetOmb w) = numbers 3 3 (pos w)
+numbers_of (SetAs level) = numbers 3 4 (bit_value level)
+numbers_of (Flag n level) = numbers 4 n (bit_value level)
+numbers_of (SetAcc v) = numbers 5 0 v
+numbers_of LoadPresets = numbers 6 0 (pos 0)
+numbers_of RoutineDone = numbers 7 0 (pos 0)
+numbers_of EnterRun = numbers 8 0 (pos 0)
+numbers_of (Outputs w) = numbers 9 0 (pos w)
+
+abbrev pub Legal : Event → Type 0
+Legal e = legal (numbers_of e).kind (numbers_of e).sub (numbers_of e).value ≡ true
+
+-- the event of these numbers, if they are legal
+abbrev pub Parsed : ℕ → ℕ → ℤ → Option Event → Type 0
+Parsed kind sub v (Some e) = (legal kind sub v ≡ true) × (numbers_of e ≡ numbers kind sub v)
+Parsed kind sub v None = legal kind sub v ≡ false
 
 -- ---- values, cut to their part's width, which a legal value fits
 
@@ -153,6 +198,10 @@ control kind sub v c =
     (cond (eqb kind 7) (routine_done c)
     (cond (eqb kind 8) (enter_run c)
     (cond (eqb kind 9) (output_write v c) c)))))))
+
+-- the same of an event as code holds it
+abbrev pub controlled : Event → Counter → Counter
+controlled e c = control (numbers_of e).kind (numbers_of e).sub (numbers_of e).value c
 
 unfoldable pub step : ℕ → ℕ → ℤ → Counter → Counter
 step kind sub v c = cond (legal kind sub v) (cond (eqb kind 1) (sample (levels_of v) c) (control kind sub v c)) c

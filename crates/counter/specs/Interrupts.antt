@@ -5,9 +5,7 @@ use Rattle.accumulator.specs.Causes.{low_preset, high_preset, underflow, overflo
 use Rattle.counter.specs.declared.state.Counter.{Counter}
 use Rattle.counter.specs.declared.desk.Outcome.{Outcome}
 use Rattle.counter.specs.declared.desk.Outcome.TheVariants.{Starts, Waits, Lost}
-use Rattle.counter.specs.declared.desk.Next.{Next}
-use Rattle.counter.specs.declared.desk.Next.TheVariants.{Cause, Nothing}
-use Rattle.counter.specs.Desk.{post, finish}
+use Rattle.counter.specs.Desk.{Next, Cause, Nothing, post, finish}
 use Rattle.counter.specs.Parts.{UIE, UIL, FE, LPM, HPM, UFM, OFM, LPI, HPI, UFI, OFI, with_out}
 use Rattle.counter.specs.Parts.{with_flags, with_desk}
 

@@ -1,6 +1,7 @@
 -- Document 01's counter, section by section, in the paper's order.
 pub mod Desk
 pub mod Parts
+pub mod Modes
 pub mod Shown
 pub mod Loading
 pub mod Events

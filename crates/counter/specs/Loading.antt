@@ -1,6 +1,8 @@
 -- Document 01, "Loading settings", with document 02's request 6: the rules in their order, and what an accepted and a rejected load leave.
-use Rattle.std.specs.Prelude.{◌≡◌, Bool, true, false, cond, not, ◌&&◌, ◌||◌, List, [], ◌∷◌, ◌++◌, ℕ, suc, ◌^◌, ◌<◌, eqb, ltb, length, get_or, ℤ, pos}
+use Rattle.std.specs.Prelude.{◌≡◌, Bool, true, false, cond, not, ◌&&◌, ◌||◌, List, [], ◌∷◌, ◌++◌, ℕ, suc, ◌^◌, ◌<◌, eqb, ltb, length, get_or, ℤ, pos, Result, Ok, Err}
 use Rattle.std.specs.Int.Signed.{lt_z, le_z}
+use Rattle.counter.specs.declared.rules.Rule.{Rule}
+use Rattle.counter.specs.declared.rules.Rule.TheVariants.{Routine, Mode, High, Overflow, Low, Mask}
 use Rattle.counter.specs.declared.state.Settings.{Settings}
 use Rattle.counter.specs.declared.state.Counter.{Counter}
 use Rattle.counter.specs.Parts.{with_hip, with_lop, with_omb, with_hpo, with_lpo, with_staged, with_active, with_er}
@@ -61,6 +63,29 @@ broken_from n (b ∷ bs) = cond b (broken_from (suc n) bs) n
 
 unfoldable pub first_broken : Settings → ℕ
 first_broken s = broken_from 1 (rules s)
+
+-- ---- the rules as code names them
+
+abbrev pub rule_number : Rule → ℕ
+rule_number Routine = 1
+rule_number Mode = 2
+rule_number High = 3
+rule_number Overflow = 4
+rule_number Low = 5
+rule_number Mask = 6
+
+-- ER after a check: the number of the rule that it found broken, 0 if it found none
+abbrev pub er_of : Result Unit Rule → ℕ
+er_of (Ok done) = 0
+er_of (Err rule) = rule_number rule
+
+abbrev pub passes : Rule → Settings → Bool
+passes Routine s = rule1 s.pfn
+passes Mode s = rule2 (mode_of s.mode)
+passes High s = rule3 (mode_of s.mode) s.hip s.lop
+passes Overflow s = rule4 s.hip s.ovf
+passes Low s = rule5 (mode_of s.mode) s.lop s.unf
+passes Mask s = rule6 s.omb
 
 -- ---- what a load leaves
 

@@ -3,7 +3,7 @@ use Rattle.std.specs.Prelude.{◌≡◌, Bool, true, false, not, ◌&&◌, ◌||
 use Rattle.std.specs.Int.Signed.{le_z}
 use Rattle.counter.specs.declared.desk.Desk.{Desk}
 use Rattle.counter.specs.declared.state.Counter.{Counter}
-use Rattle.counter.specs.declared.state.Count.TheVariants.{Up, Down}
+use Rattle.counter.specs.Sample.{Up, Down}
 use Rattle.counter.specs.Desk.{first, second, waits}
 use Rattle.counter.specs.Interrupts.{enabled, raise}
 use Rattle.counter.specs.Sample.{count, sampled, sample}

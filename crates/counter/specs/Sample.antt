@@ -1,16 +1,36 @@
 -- Document 01, "One input sample", with document 02's request 4: edges, reset and hold, the mode's table, and what a count does.
-use Rattle.std.specs.Prelude.{Bool, cond, not, ◌&&◌, ◌||◌, ℕ, ◌%◌, eqb, ltb, ℤ, pos}
+use Rattle.std.specs.Prelude.{Bool, cond, not, ◌&&◌, ◌||◌, ℕ, ◌%◌, eqb, ltb, ℤ, pos, Option, Some, None as no_count}
 use Rattle.word.specs.Masks.{bit, set_bit, clear_bit}
-use Rattle.accumulator.specs.declared.Counted.{Counted}
-use Rattle.accumulator.specs.Count.{up, down}
-use Rattle.accumulator.specs.Causes.{high_preset, underflow, overflow}
+use Rattle.accumulator.specs.Count.{Counted, up, down}
+use Rattle.accumulator.specs.Causes.{high_preset, underflow, overflow, cause_number}
 use Rattle.counter.specs.declared.state.Counter.{Counter}
-use Rattle.counter.specs.declared.state.Sampled.{Sampled}
-use Rattle.counter.specs.declared.state.Count.{Count}
-use Rattle.counter.specs.declared.state.Count.TheVariants.{None, Up, Down}
+use Rattle.counter.specs.declared.sampling.Sampled as code
+use Rattle.counter.specs.declared.inputs.Count as asked
+use Rattle.counter.specs.declared.inputs.Count.TheVariants.{Up as up_way, Down as down_way}
 use Rattle.counter.specs.Parts.{CE, DIR, UF, OF, MD, LOADED, with_acc, with_flags, with_levels, flag}
 use Rattle.counter.specs.Parts.{up_only, mode}
 use Rattle.counter.specs.Interrupts.{raise}
+
+-- ---- what a sample asks for, and what it makes of ACC and of the flags, and the cause that it raises, 0 for none
+
+pub data Count : Type 0 where
+  None : Count
+  Up : Count
+  Down : Count
+
+pub record Sampled : Type 0 where
+  pub acc : ℤ
+  pub flags : ℕ
+  pub cause : ℕ
+
+-- what code answers
+abbrev pub count_of : Option asked.Count → Count
+count_of (Some up_way) = Up
+count_of (Some down_way) = Down
+count_of no_count = None
+
+abbrev pub sampled_of : code.Sampled → Sampled
+sampled_of r = record { acc = r.acc; flags = r.flags; cause = cause_number r.cause }
 
 -- ---- edges compare stored with new levels
 
@@ -73,7 +93,6 @@ up_of c = up (up_only (mode c)) c.acc c.active.hip c.active.ovf c.active.unf
 abbrev pub down_of : Counter → Counted
 down_of c = down c.acc c.active.lop c.active.ovf c.active.unf
 
--- what a sample makes of ACC and of the flags, and the cause that it raises, 0 for none
 abbrev pub sampled_as : ℤ → ℕ → ℕ → Sampled
 sampled_as acc flags cause = record { acc = acc; flags = flags; cause = cause }
 

@@ -1,135 +1,119 @@
-// Causes: which become interrupts, and the flags that tell what became of them.
+//! Causes: the outputs that they put, which of them become interrupts, and the flags that tell
+//! what became of them.
 ghost use Rattle.std.specs.Prelude.{◌≡◌};
-ghost use Rattle.counter.specs.Interrupts.{unmasked, enabled, quiet, started, posted_flags, finished_flags, interrupt, routine_done, with_outputs, raise};
+ghost use Rattle.accumulator.specs.Causes.{number};
+ghost use Rattle.counter.specs.Parts.{with_flags};
+ghost use Rattle.counter.specs.Desk.{next_of};
+ghost use Rattle.counter.specs.Interrupts.{unmasked, enabled, quiet, started, finished_flags};
+ghost use Rattle.counter.specs.Interrupts.{interrupt, routine_done, with_outputs, raise};
 
-use super::desk::{Next, Outcome};
-use super::state::Counter;
-use super::{desk, flag, outputs};
-use word::bits;
+use crate::desk::Outcome;
+use crate::state::Counter;
+use crate::{flag, outputs};
+use accumulator::cause::Cause;
 
-// Whether the cause's mask is 1.
-#[tactic(auto, unfolding(crate::specs::Interrupts::unmasked))]
-fn unmasked(flags: u32, cause: u8) -> bool
-    ensures { result ≡ unmasked flags cause }
-{
-    match cause {
-        1 => bits::has(flags, flag::LPM),
-        2 => bits::has(flags, flag::HPM),
-        3 => bits::has(flags, flag::UFM),
-        4 => bits::has(flags, flag::OFM),
-        _ => false,
+impl Counter {
+    /// Whether the cause's mask is 1.
+    #[tactic(auto, unfolding(crate::specs::Interrupts::unmasked))]
+    fn unmasked(&self, cause: Cause) -> bool
+        ensures { result ≡ unmasked self.now.flags (number cause) }
+    {
+        match cause {
+            Cause::LowPreset => self.has(flag::LPM),
+            Cause::HighPreset => self.has(flag::HPM),
+            Cause::Underflow => self.has(flag::UFM),
+            Cause::Overflow => self.has(flag::OFM),
+        }
     }
-}
 
-// Whether the cause becomes an interrupt.
-#[tactic(auto, unfolding(crate::specs::Interrupts::enabled))]
-fn enabled(flags: u32, cause: u8) -> bool
-    ensures { result ≡ enabled flags cause }
-{
-    bits::has(flags, flag::FE) & bits::has(flags, flag::UIE) & unmasked(flags, cause)
-}
-
-// LPI, HPI, UFI and OFI at 0.
-#[tactic(auto, unfolding(crate::specs::Interrupts::quiet))]
-pub fn quiet(flags: u32) -> u32
-    ensures { result ≡ quiet flags }
-{
-    bits::clear(
-        bits::clear(
-            bits::clear(bits::clear(flags, flag::LPI), flag::HPI),
-            flag::UFI,
-        ),
-        flag::OFI,
-    )
-}
-
-// The cause's bit of the four at 1, the other three at 0.
-#[tactic(auto, unfolding(crate::specs::Interrupts::started))]
-fn started(cause: u8, flags: u32) -> u32
-    ensures { result ≡ started cause flags }
-{
-    let none = quiet(flags);
-    match cause {
-        1 => bits::set(none, flag::LPI),
-        2 => bits::set(none, flag::HPI),
-        3 => bits::set(none, flag::UFI),
-        4 => bits::set(none, flag::OFI),
-        _ => none,
+    /// Whether the cause becomes an interrupt.
+    #[tactic(auto, unfolding(crate::specs::Interrupts::enabled))]
+    fn enabled(&self, cause: Cause) -> bool
+        ensures { result ≡ enabled self.now.flags (number cause) }
+    {
+        self.has(flag::FE) & self.has(flag::UIE) & self.unmasked(cause)
     }
-}
 
-// The flags after a cause is posted: UIL is 1 if it is lost.
-#[tactic(auto, unfolding(crate::specs::Interrupts::posted_flags))]
-fn posted_flags(outcome: Outcome, cause: u8, flags: u32) -> u32
-    ensures { result ≡ posted_flags outcome cause flags }
-{
-    match outcome {
-        Outcome::Starts => started(cause, flags),
-        Outcome::Waits => flags,
-        Outcome::Lost => bits::set(flags, flag::UIL),
+    /// LPI, HPI, UFI and OFI at 0.
+    #[tactic(auto, unfolding(crate::specs::Interrupts::quiet))]
+    pub(crate) fn quiet(&mut self)
+        ensures { self.new ≡ with_flags (quiet self.old.flags) self.old }
+    {
+        self.clear(flag::LPI);
+        self.clear(flag::HPI);
+        self.clear(flag::UFI);
+        self.clear(flag::OFI);
     }
-}
 
-// The flags after a routine is done.
-#[tactic(auto, unfolding(crate::specs::Interrupts::finished_flags))]
-fn finished_flags(next: Next, flags: u32) -> u32
-    ensures { result ≡ finished_flags next flags }
-{
-    match next {
-        Next::Cause(cause) => started(cause, flags),
-        Next::Nothing => flags,
+    /// The cause's bit of the four at 1, the other three at 0.
+    #[tactic(auto, unfolding(crate::specs::Interrupts::started))]
+    fn show(&mut self, cause: Cause)
+        ensures { self.new ≡ with_flags (started (number cause) self.old.flags) self.old }
+    {
+        self.quiet();
+        match cause {
+            Cause::LowPreset => self.set(flag::LPI),
+            Cause::HighPreset => self.set(flag::HPI),
+            Cause::Underflow => self.set(flag::UFI),
+            Cause::Overflow => self.set(flag::OFI),
+        }
     }
-}
 
-// An interrupt: the desk takes it, and the flags tell what became of it.
-#[tactic(auto, unfolding(crate::specs::Interrupts::interrupt))]
-fn interrupt(c: Counter, cause: u8) -> Counter
-    ensures { result ≡ interrupt cause c }
-{
-    let before = c.desk;
-    let r = desk::post(before, cause);
-    let after = r.desk;
-    let outcome = r.outcome;
-    let mut d = c;
-    d.desk = after;
-    d.flags = posted_flags(outcome, cause, c.flags);
-    d
-}
+    /// Shows what starts when a routine is done, by its number: one that is no cause's shows none.
+    #[tactic(auto, unfolding(crate::specs::Interrupts::finished_flags, crate::specs::Interrupts::started))]
+    fn show_next(&mut self, next: Option<u8>)
+        ensures { self.new ≡ with_flags (finished_flags (next_of next) self.old.flags) self.old }
+    {
+        if let Some(number) = next {
+            match Cause::try_from(number) {
+                Ok(cause) => self.show(cause),
+                Err(_) => self.quiet(),
+            }
+        }
+    }
 
-// The routine is done.
-#[tactic(auto, unfolding(crate::specs::Interrupts::routine_done))]
-pub fn routine_done(c: Counter) -> Counter
-    ensures { result ≡ routine_done c }
-{
-    let before = c.desk;
-    let r = desk::finish(before);
-    let after = r.desk;
-    let next = r.next;
-    let mut d = c;
-    d.desk = after;
-    d.flags = finished_flags(next, c.flags);
-    d
-}
+    /// Takes a cause that becomes an interrupt: UIL is 1 if it is lost.
+    #[tactic(auto, unfolding(crate::specs::Interrupts::interrupt, crate::specs::Interrupts::posted_flags))]
+    fn interrupt(&mut self, cause: Cause)
+        ensures { self.new ≡ interrupt (number cause) self.old }
+    {
+        match self.desk.post(cause) {
+            Outcome::Starts => self.show(cause),
+            Outcome::Waits => {}
+            Outcome::Lost => self.set(flag::UIL),
+        }
+    }
 
-// The outputs that the cause puts.
-fn with_outputs(c: Counter, cause: u8) -> Counter
-    ensures { result ≡ with_outputs cause c }
-{
-    let a = c.active;
-    let mut d = c;
-    d.out = outputs::cause_word(cause, a.omb, a.hpo, a.lpo, c.out);
-    d
-}
+    /// Ends the routine that runs.
+    #[tactic(auto, unfolding(crate::specs::Interrupts::routine_done))]
+    pub fn routine_done(&mut self)
+        ensures { self.new ≡ routine_done self.old }
+    {
+        let next = self.desk.finish();
+        self.show_next(next);
+    }
 
-// A cause comes: its outputs, and an interrupt if it is enabled.
-#[tactic(auto, unfolding(crate::specs::Interrupts::raise))]
-pub fn raise(c: Counter, cause: u8) -> Counter
-    ensures { result ≡ raise cause c }
-{
-    let d = with_outputs(c, cause);
-    if enabled(c.flags, cause) {
-        interrupt(d, cause)
-    } else {
-        d
+    /// Puts the outputs of the cause: HPO or LPO on those in active OMB.
+    #[tactic(auto, unfolding(crate::specs::Interrupts::cause_word))]
+    fn put_outputs(&mut self, cause: Cause)
+        ensures { self.new ≡ with_outputs (number cause) self.old }
+    {
+        let active = &self.active;
+        match cause {
+            Cause::HighPreset => self.out = outputs::preset_word(active.omb, active.hpo, self.out),
+            Cause::LowPreset => self.out = outputs::preset_word(active.omb, active.lpo, self.out),
+            Cause::Underflow | Cause::Overflow => {}
+        }
+    }
+
+    /// Raises a cause: its outputs, and an interrupt if it is enabled.
+    #[tactic(auto, unfolding(crate::specs::Interrupts::raise))]
+    pub fn raise(&mut self, cause: Cause)
+        ensures { self.new ≡ raise (number cause) self.old }
+    {
+        self.put_outputs(cause);
+        if self.enabled(cause) {
+            self.interrupt(cause);
+        }
     }
 }

@@ -1,45 +1,30 @@
-// The desk: the running cause and the waiting ones. A cause is any number but 0, which stands for none.
+//! The desk: the running cause and the waiting ones.
 ghost use Rattle.std.specs.Prelude.{◌≡◌, ◌<◌};
-ghost use Rattle.counter.specs.Desk.{queued_of, empty, waits, starting, waiting, resting, advancing, post, finish};
+ghost use Rattle.accumulator.specs.Causes.{number};
+ghost use Rattle.counter.specs.Desk.{queued_of, empty, waits, starting, waiting, resting};
+ghost use Rattle.counter.specs.Desk.{advancing, post, finish, next_of};
 
-// The waiting causes stand at the front of `waiting`, `queued` of them, in order of arrival.
-#[derive(Clone, Copy)]
+use accumulator::cause::Cause;
+
+/// The running cause and the waiting ones, by number, 0 for none. The waiting ones stand at the
+/// front of `waiting`, `queued` of them, in order of arrival.
+// Not `Option<Cause>`: a state holds any byte of a snapshot (`encode-decode`, `step-over`).
+#[derive(Clone, Copy, Debug, PartialEq, Eq)]
 pub struct Desk {
     pub running: u8,
     pub waiting: [u8; 2],
     pub queued: u8,
 }
 
-// What becomes of a cause that is posted; one that waited before waits.
-#[derive(Clone, Copy)]
+/// What becomes of a cause that is posted; one that waited before waits.
+#[derive(Clone, Copy, Debug, PartialEq, Eq)]
 pub enum Outcome {
     Starts,
     Waits,
     Lost,
 }
 
-// The desk after a cause is posted, and what became of the cause.
-#[derive(Clone, Copy)]
-pub struct Posted {
-    pub desk: Desk,
-    pub outcome: Outcome,
-}
-
-// What starts when a routine is done.
-#[derive(Clone, Copy)]
-pub enum Next {
-    Cause(u8),
-    Nothing,
-}
-
-// The desk after a routine is done, and what starts.
-#[derive(Clone, Copy)]
-pub struct Finished {
-    pub desk: Desk,
-    pub next: Next,
-}
-
-// How many causes wait, by the two places.
+/// How many causes wait, by the two places.
 #[tactic(auto, unfolding(crate::specs::Desk::queued_of))]
 pub fn queued_of(first: u8, second: u8) -> u8
     ensures { result ≡ queued_of first second }
@@ -51,125 +36,94 @@ pub fn queued_of(first: u8, second: u8) -> u8
     }
 }
 
-// None running, none waiting.
-pub fn empty() -> Desk
-    ensures { result ≡ empty }
-{
-    Desk {
-        running: 0,
-        waiting: [0, 0],
-        queued: 0,
-    }
-}
-
-// Whether the cause stands in one of the two places.
+/// Whether the cause stands in one of the two places.
 fn waits(cause: u8, first: u8, second: u8) -> bool
     ensures { result ≡ waits cause first second }
 {
     (first == cause) | (second == cause)
 }
 
-fn start(d: Desk, cause: u8) -> Desk
-    ensures { result ≡ starting cause d }
-{
-    let mut e = d;
-    e.running = cause;
-    e
-}
-
-// The cause waits behind those that wait already.
-fn wait(d: Desk, cause: u8) -> Desk
-    requires { d.queued < 2 }
-    ensures { result ≡ waiting cause d }
-{
-    let at = d.queued as usize;
-    let mut e = d;
-    e.waiting[at] = cause;
-    e.queued = d.queued + 1;
-    e
-}
-
-// None runs any more.
-fn rest(d: Desk) -> Desk
-    ensures { result ≡ resting d }
-{
-    let mut e = d;
-    e.running = 0;
-    e
-}
-
-// The first waiting cause runs; the second moves up.
-fn advance(d: Desk) -> Desk
-    requires { 0 < d.queued }
-    ensures { result ≡ advancing d }
-{
-    let first = d.waiting[0];
-    let second = d.waiting[1];
-    let left = [second, 0u8];
-    Desk {
-        running: first,
-        waiting: left,
-        queued: d.queued - 1,
-    }
-}
-
-// A cause comes: it waits already, starts, waits or is lost.
-#[tactic(auto, unfolding(crate::specs::Desk::post))]
-pub fn post(d: Desk, cause: u8) -> Posted
-    ensures { result ≡ post cause d }
-{
-    let first = d.waiting[0];
-    let second = d.waiting[1];
-    if waits(cause, first, second) {
-        let outcome = Outcome::Waits;
-        return Posted { desk: d, outcome };
-    }
-    if d.running == 0 {
-        let desk = start(d, cause);
-        Posted {
-            desk,
-            outcome: Outcome::Starts,
+impl Desk {
+    /// None running, none waiting.
+    pub fn empty() -> Self
+        ensures { result ≡ empty }
+    {
+        Desk {
+            running: 0,
+            waiting: [0, 0],
+            queued: 0,
         }
-    } else {
-        if d.queued < 2 {
-            let desk = wait(d, cause);
-            Posted {
-                desk,
-                outcome: Outcome::Waits,
-            }
+    }
+
+    fn start(&mut self, cause: u8)
+        ensures { self.new ≡ starting cause self.old }
+    {
+        self.running = cause;
+    }
+
+    /// The cause waits behind those that wait already.
+    fn wait(&mut self, cause: u8)
+        requires { self.old.queued < 2 }
+        ensures { self.new ≡ waiting cause self.old }
+    {
+        self.waiting[self.queued as usize] = cause;
+        self.queued += 1;
+    }
+
+    /// None runs any more.
+    fn rest(&mut self)
+        ensures { self.new ≡ resting self.old }
+    {
+        self.running = 0;
+    }
+
+    /// The first waiting cause runs; the second moves up.
+    fn advance(&mut self)
+        requires { 0 < self.old.queued }
+        ensures { self.new ≡ advancing self.old }
+    {
+        self.running = self.waiting[0];
+        self.waiting = [self.waiting[1], 0];
+        self.queued -= 1;
+    }
+
+    /// Takes a cause that comes: it waits already, starts, waits or is lost.
+    #[tactic(auto, unfolding(crate::specs::Desk::post))]
+    pub fn post(&mut self, cause: Cause) -> Outcome
+        ensures outcome { result ≡ (post (number cause) self.old).outcome }
+        ensures desk { self.new ≡ (post (number cause) self.old).desk }
+    {
+        let number = u8::from(cause);
+        if waits(number, self.waiting[0], self.waiting[1]) {
+            return Outcome::Waits;
+        }
+        if self.running == 0 {
+            self.start(number);
+            return Outcome::Starts;
+        }
+        if self.queued < 2 {
+            self.wait(number);
+            Outcome::Waits
         } else {
-            Posted {
-                desk: d,
-                outcome: Outcome::Lost,
-            }
+            Outcome::Lost
         }
     }
-}
 
-// The routine is done: the first waiting cause starts, or none runs.
-#[tactic(auto, unfolding(crate::specs::Desk::finish))]
-pub fn finish(d: Desk) -> Finished
-    ensures { result ≡ finish d }
-{
-    if d.running == 0 {
-        Finished {
-            desk: d,
-            next: Next::Nothing,
+    /// Ends the routine: the first waiting cause starts, or none runs. Answers the number of the
+    /// cause that starts.
+    #[tactic(auto, unfolding(crate::specs::Desk::finish))]
+    pub fn finish(&mut self) -> Option<u8>
+        ensures next { next_of result ≡ (finish self.old).next }
+        ensures desk { self.new ≡ (finish self.old).desk }
+    {
+        if self.running == 0 {
+            return None;
         }
-    } else {
-        if d.queued == 0 {
-            let desk = rest(d);
-            Finished {
-                desk,
-                next: Next::Nothing,
-            }
-        } else {
-            let desk = advance(d);
-            let first = desk.running;
-            Finished {
-                desk,
-                next: Next::Cause(first),
-            }
+        if self.queued == 0 {
+            self.rest();
+            return None;
         }
+        self.advance();
+        Some(self.running)
     }
 }

@@ -1,14 +1,15 @@
-// The counter of document 01, by value. Functions that hold branches work on plain numbers; those over a whole counter read parts,
-// call them and store parts; the step goes by the event's kind.
+//! The counter: its settings, its state, and the step of each event. Functions that hold branches
+//! work on plain numbers; methods of the state read parts, call them and store parts.
 #![tactic(auto)]
 
 pub mod causes;
-pub mod counting;
 pub mod desk;
+pub mod event;
 pub mod flag;
 pub mod inputs;
 pub mod legality;
 pub mod loading;
+pub mod mode;
 pub mod outputs;
 pub mod reading;
 pub mod rules;

@@ -1,94 +1,92 @@
-// Loading settings, whole or the presets alone.
-ghost use Rattle.std.specs.Prelude.{◌≡◌};
-ghost use Rattle.counter.specs.Loading.{without_error, accepted, rejected, load, with_presets, preset_accepted, preset_load};
+//! Loading settings, whole or the presets alone.
+ghost use Rattle.std.specs.Prelude.{◌≡◌, eqb};
+ghost use Rattle.counter.specs.Parts.{with_active};
+ghost use Rattle.counter.specs.Loading.{rule_number, first_broken, without_error, accepted};
+ghost use Rattle.counter.specs.Loading.{rejected, load, with_presets, preset_load};
 
-use super::state::{Counter, Settings};
-use super::{flag, rules};
-use word::bits;
+use crate::flag;
+use crate::rules::Rule;
+use crate::state::{Counter, Settings};
 
-// ED 0, ER 0.
-fn without_error(c: Counter) -> Counter
-    ensures { result ≡ without_error c }
-{
-    let mut d = c;
-    d.er = 0;
-    d.flags = bits::clear(c.flags, flag::ED);
-    d
-}
-
-// Active becomes staged, loaded 1.
-pub fn accept(c: Counter) -> Counter
-    ensures { result ≡ accepted c }
-{
-    let s = c.staged;
-    let mut d = c;
-    d.active = s;
-    d.flags = bits::set(c.flags, flag::LOADED);
-    without_error(d)
-}
-
-// ED 1, ER n.
-pub fn reject(c: Counter, n: u16) -> Counter
-    ensures { result ≡ rejected n c }
-{
-    let mut d = c;
-    d.er = n;
-    d.flags = bits::set(c.flags, flag::ED);
-    d
-}
-
-// A load of all settings.
-#[tactic(auto, unfolding(crate::specs::Loading::load))]
-pub fn load(c: Counter) -> Counter
-    ensures { result ≡ load c }
-{
-    let s = c.staged;
-    let broken = rules::first_broken(s);
-    if broken == 0 {
-        accept(c)
-    } else {
-        reject(c, broken)
+impl Settings {
+    /// These settings with the presets of the staged ones, and the outputs that go with them.
+    pub fn with_presets_of(&self, staged: &Settings) -> Settings
+        ensures { result ≡ with_presets staged.now self.now }
+    {
+        Settings {
+            hip: staged.hip,
+            lop: staged.lop,
+            hpo: staged.hpo,
+            lpo: staged.lpo,
+            ..*self
+        }
     }
 }
 
-// Active settings with the presets of the staged ones.
-fn with_presets(s: Settings, a: Settings) -> Settings
-    ensures { result ≡ with_presets s a }
-{
-    let mut b = a;
-    b.hip = s.hip;
-    b.lop = s.lop;
-    b.hpo = s.hpo;
-    b.lpo = s.lpo;
-    b
-}
+impl Counter {
+    /// ED 0, ER 0.
+    fn clear_error(&mut self)
+        ensures { self.new ≡ without_error self.old }
+    {
+        self.er = 0;
+        self.clear(flag::ED);
+    }
 
-fn accept_presets(c: Counter) -> Counter
-    ensures { result ≡ preset_accepted c }
-{
-    let s = c.staged;
-    let a = c.active;
-    let b = with_presets(s, a);
-    let mut d = c;
-    d.active = b;
-    without_error(d)
-}
+    /// Active becomes staged, loaded 1.
+    fn accept(&mut self)
+        ensures { self.new ≡ accepted self.old }
+    {
+        self.active = self.staged;
+        self.set(flag::LOADED);
+        self.clear_error();
+    }
 
-// A load of the presets alone; no effect if nothing is loaded.
-#[tactic(auto, unfolding(crate::specs::Loading::preset_load))]
-pub fn preset_load(c: Counter) -> Counter
-    ensures { result ≡ preset_load c }
-{
-    let s = c.staged;
-    let a = c.active;
-    if bits::has(c.flags, flag::LOADED) {
-        let broken = rules::preset_broken(s, a);
-        if broken == 0 {
-            accept_presets(c)
-        } else {
-            reject(c, broken)
+    /// ED 1, and the rule's number in ER.
+    fn reject(&mut self, rule: Rule)
+        ensures { self.new ≡ rejected (rule_number rule) self.old }
+    {
+        self.er = u16::from(rule);
+        self.set(flag::ED);
+    }
+
+    /// Loads the staged settings; answers whether they are accepted.
+    #[tactic(auto, unfolding(crate::specs::Loading::load))]
+    pub fn load(&mut self) -> bool
+        ensures accepted { result ≡ eqb (first_broken self.old.staged) 0 }
+        ensures counter { self.new ≡ load self.old }
+    {
+        match self.staged.check() {
+            Ok(()) => {
+                self.accept();
+                true
+            }
+            Err(rule) => {
+                self.reject(rule);
+                false
+            }
         }
-    } else {
-        c
+    }
+
+    /// Active becomes these settings, whose presets were checked.
+    fn accept_presets(&mut self, next: Settings)
+        ensures { self.new ≡ without_error (with_active next self.old) }
+    {
+        self.active = next;
+        self.clear_error();
+    }
+
+    /// Loads the presets alone; no effect if nothing is loaded.
+    #[tactic(auto, unfolding(crate::specs::Loading::preset_load, crate::specs::Loading::preset_broken))]
+    pub fn preset_load(&mut self)
+        ensures { self.new ≡ preset_load self.old }
+    {
+        if !self.has(flag::LOADED) {
+            return;
+        }
+        let next = self.active.with_presets_of(&self.staged);
+        match next.check_presets() {
+            Ok(()) => self.accept_presets(next),
+            Err(rule) => self.reject(rule),
+        }
     }
 }

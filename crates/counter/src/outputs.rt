@@ -1,37 +1,25 @@
-// The output word: what a cause puts on it, and what the program does.
+//! The output word: what a preset puts on it, and what the program does.
 ghost use Rattle.std.specs.Prelude.{◌≡◌};
-ghost use Rattle.counter.specs.Interrupts.{preset_word, cause_word};
+ghost use Rattle.counter.specs.Interrupts.{preset_word};
 ghost use Rattle.counter.specs.Events.{program_word};
 
 use word::bits;
 
-// Below this, bits 12-15 of a word are zero.
+/// Below this, bits 12-15 of a word are zero.
 pub const OUTPUTS_END: u16 = 0x1000;
 
-// A preset's word on the outputs in the mask, among bits 0 to 11.
+/// A preset's word on the outputs in the mask, among bits 0 to 11.
 #[tactic(auto, unfolding(crate::specs::Interrupts::preset_word))]
-fn preset_word(omb: u16, word: u16, out: u16) -> u16
+pub fn preset_word(omb: u16, word: u16, out: u16) -> u16
     ensures { result ≡ preset_word omb word out }
 {
-    bits::merge(omb % 4096, word, out)
+    bits::merge(omb % OUTPUTS_END, word, out)
 }
 
-// Cause 2 puts HPO, cause 1 puts LPO; another leaves the outputs.
-#[tactic(auto, unfolding(crate::specs::Interrupts::cause_word))]
-pub fn cause_word(cause: u8, omb: u16, hpo: u16, lpo: u16, out: u16) -> u16
-    ensures { result ≡ cause_word cause omb hpo lpo out }
-{
-    match cause {
-        2 => preset_word(omb, hpo, out),
-        1 => preset_word(omb, lpo, out),
-        _ => out,
-    }
-}
-
-// The program's word on the outputs that are not in the mask.
+/// The program's word on the outputs that are not in the mask.
 #[tactic(auto, unfolding(crate::specs::Events::program_word))]
 pub fn program_word(omb: u16, word: u16, out: u16) -> u16
     ensures { result ≡ program_word omb word out }
 {
-    bits::merge(omb % 4096, out, word % 4096)
+    bits::merge(omb % OUTPUTS_END, out, word % OUTPUTS_END)
 }

@@ -1,62 +1,63 @@
-// The bits shown but not stored.
+//! The bits shown but not stored.
 ghost use Rattle.std.specs.Prelude.{◌≡◌};
 ghost use Rattle.counter.specs.Shown.{uix, uip, cu, two_way, cd, hpr, lpr};
 
-use super::state::Counter;
-use super::{flag, rules};
-use word::bits;
+use crate::flag;
+use crate::state::Counter;
 
-// A cause runs.
-#[tactic(auto, unfolding(crate::specs::Shown::uix))]
-pub fn uix(c: Counter) -> bool
-    ensures { result ≡ uix c }
-{
-    let d = c.desk;
-    !(d.running == 0)
-}
+impl Counter {
+    /// A cause runs.
+    #[tactic(auto, unfolding(crate::specs::Shown::uix))]
+    pub fn uix(&self) -> bool
+        ensures { result ≡ uix self.now }
+    {
+        self.desk.running != 0
+    }
 
-// A cause waits.
-#[tactic(auto, unfolding(crate::specs::Shown::uip))]
-pub fn uip(c: Counter) -> bool
-    ensures { result ≡ uip c }
-{
-    let d = c.desk;
-    !(d.queued == 0)
-}
+    /// A cause waits.
+    #[tactic(auto, unfolding(crate::specs::Shown::uip))]
+    pub fn uip(&self) -> bool
+        ensures { result ≡ uip self.now }
+    {
+        self.desk.queued != 0
+    }
 
-#[tactic(auto, unfolding(crate::specs::Shown::cu))]
-pub fn cu(c: Counter) -> bool
-    ensures { result ≡ cu c }
-{
-    bits::has(c.flags, flag::CE)
-}
+    /// CE.
+    #[tactic(auto, unfolding(crate::specs::Shown::cu))]
+    pub fn cu(&self) -> bool
+        ensures { result ≡ cu self.now }
+    {
+        self.has(flag::CE)
+    }
 
-// A mode of 2 to 7 is loaded.
-fn two_way(c: Counter) -> bool
-    ensures { result ≡ two_way c }
-{
-    bits::has(c.flags, flag::LOADED) & !rules::up_only(rules::mode(c))
-}
+    /// A mode of 2 to 7 is loaded.
+    fn two_way(&self) -> bool
+        ensures { result ≡ two_way self.now }
+    {
+        self.has(flag::LOADED) & !self.active.up_only()
+    }
 
-#[tactic(auto, unfolding(crate::specs::Shown::cd))]
-pub fn cd(c: Counter) -> bool
-    ensures { result ≡ cd c }
-{
-    bits::has(c.flags, flag::CE) & two_way(c)
-}
+    /// CE, in a mode of 2 to 7.
+    #[tactic(auto, unfolding(crate::specs::Shown::cd))]
+    pub fn cd(&self) -> bool
+        ensures { result ≡ cd self.now }
+    {
+        self.has(flag::CE) & self.two_way()
+    }
 
-#[tactic(auto, unfolding(crate::specs::Shown::hpr))]
-pub fn hpr(c: Counter) -> bool
-    ensures { result ≡ hpr c }
-{
-    let a = c.active;
-    bits::has(c.flags, flag::LOADED) & (a.hip <= c.acc)
-}
+    /// ACC is HIP or above, with settings loaded.
+    #[tactic(auto, unfolding(crate::specs::Shown::hpr))]
+    pub fn hpr(&self) -> bool
+        ensures { result ≡ hpr self.now }
+    {
+        self.has(flag::LOADED) & (self.active.hip <= self.acc)
+    }
 
-#[tactic(auto, unfolding(crate::specs::Shown::lpr))]
-pub fn lpr(c: Counter) -> bool
-    ensures { result ≡ lpr c }
-{
-    let a = c.active;
-    two_way(c) & (c.acc <= a.lop)
+    /// ACC is LOP or below, in a mode of 2 to 7.
+    #[tactic(auto, unfolding(crate::specs::Shown::lpr))]
+    pub fn lpr(&self) -> bool
+        ensures { result ≡ lpr self.now }
+    {
+        self.two_way() & (self.acc <= self.active.lop)
+    }
 }

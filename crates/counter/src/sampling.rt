@@ -1,133 +1,170 @@
-// One input sample: reset, hold, and the count that the mode asks for.
+//! One input sample: reset, hold, and the count that the mode asks for.
 ghost use Rattle.std.specs.Prelude.{◌≡◌, pos};
-ghost use Rattle.counter.specs.Sample.{sampled_as, unmoved, counted_up, counted_down, counted_by, resets, may_count, count, sampled, sample};
+ghost use Rattle.accumulator.specs.Causes.{cause_number};
+ghost use Rattle.counter.specs.Parts.{mode_of, up_only};
+ghost use Rattle.counter.specs.Sample.{up_flags, down_flags, unmoved, counted_up, counted_down};
+ghost use Rattle.counter.specs.Sample.{counted_by, resets, may_count, count, sampled, sample};
+ghost use Rattle.counter.specs.Sample.{count_of, sampled_as, sampled_of};
 ghost use Rattle.counter.specs.Idle.{idle};
 
-use super::state::{Count, Counter, Sampled};
-use super::{causes, counting, flag, inputs, rules};
+use crate::flag;
+use crate::inputs::{self, Count};
+use crate::state::Counter;
+use accumulator::cause::Cause;
 use word::bits;
 
-fn unmoved(c: Counter) -> Sampled
-    ensures { result ≡ unmoved c }
+/// What an input sample makes of ACC and of the flags, and the cause that it raises, if any.
+#[derive(Clone, Copy, Debug, PartialEq, Eq)]
+pub struct Sampled {
+    pub acc: i32,
+    pub flags: u32,
+    pub cause: Option<Cause>,
+}
+
+/// The flags after a count up: OF past OVF, and MD where a count up alone lands on HIP.
+#[tactic(auto, unfolding(crate::specs::Sample::up_flags))]
+fn up_flags(single: bool, cause: Option<Cause>, flags: u32) -> u32
+    ensures { result ≡ up_flags single (cause_number cause) flags }
 {
-    Sampled {
-        acc: c.acc,
-        flags: c.flags,
-        cause: 0,
+    let counted = bits::set(flags, flag::DIR);
+    match cause {
+        Some(Cause::Overflow) => bits::set(counted, flag::OF),
+        Some(Cause::HighPreset) if single => bits::set(counted, flag::MD),
+        _ => counted,
     }
 }
 
-fn counted_up(c: Counter) -> Sampled
-    ensures { result ≡ counted_up c }
+/// The flags after a count down: UF past UNF.
+#[tactic(auto, unfolding(crate::specs::Sample::down_flags))]
+fn down_flags(cause: Option<Cause>, flags: u32) -> u32
+    ensures { result ≡ down_flags (cause_number cause) flags }
 {
-    let a = c.active;
-    let single = rules::up_only(rules::mode(c));
-    let r = accumulator::up(single, c.acc, a.hip, a.ovf, a.unf);
-    Sampled {
-        acc: r.acc,
-        flags: counting::up_flags(single, r.cause, c.flags),
-        cause: r.cause,
+    let counted = bits::clear(flags, flag::DIR);
+    match cause {
+        Some(Cause::Underflow) => bits::set(counted, flag::UF),
+        _ => counted,
     }
 }
 
-fn counted_down(c: Counter) -> Sampled
-    ensures { result ≡ counted_down c }
-{
-    let a = c.active;
-    let r = accumulator::down(c.acc, a.lop, a.ovf, a.unf);
-    Sampled {
-        acc: r.acc,
-        flags: counting::down_flags(r.cause, c.flags),
-        cause: r.cause,
-    }
-}
-
-#[tactic(auto, unfolding(crate::specs::Sample::counted_by))]
-fn counted_by(way: Count, c: Counter) -> Sampled
-    ensures { result ≡ counted_by way c }
-{
-    match way {
-        Count::None => unmoved(c),
-        Count::Up => counted_up(c),
-        Count::Down => counted_down(c),
-    }
-}
-
-// Whether the sample resets: settings are loaded, and the inputs reset in their mode.
-#[tactic(auto, unfolding(crate::specs::Sample::resets))]
-fn resets(c: Counter, new: u8) -> bool
-    ensures { result ≡ resets new c }
-{
-    bits::has(c.flags, flag::LOADED) & inputs::reset_by(rules::mode(c), c.levels, new)
-}
-
-// Whether the sample may count: CE is 1, and no input inhibits it.
-#[tactic(auto, unfolding(crate::specs::Sample::may_count))]
-fn may_count(c: Counter, new: u8) -> bool
-    ensures { result ≡ may_count new c }
-{
-    bits::has(c.flags, flag::LOADED)
-        & (bits::has(c.flags, flag::CE) & !inputs::inhibited(rules::mode(c), new))
-}
-
-// The count that the sample makes.
-#[tactic(auto, unfolding(crate::specs::Sample::count))]
-fn count(c: Counter, new: u8) -> Count
-    ensures { result ≡ count new c }
-{
-    if resets(c, new) {
-        Count::None
-    } else {
-        if may_count(c, new) {
-            inputs::direction(rules::mode(c), c.levels, new)
-        } else {
-            Count::None
-        }
-    }
-}
-
+/// A reset: ACC 0, and nothing raised.
 fn reset(flags: u32) -> Sampled
-    ensures { result ≡ sampled_as (pos 0) flags 0 }
+    ensures { sampled_of result ≡ sampled_as (pos 0) flags 0 }
 {
     Sampled {
         acc: 0,
         flags,
-        cause: 0,
+        cause: None,
     }
 }
 
-// Whether it is told at once that nothing comes of the sample but its levels: no input rises, in a mode that goes by rises alone.
-#[tactic(auto, unfolding(crate::specs::Idle::idle, crate::specs::Idle::by_rises))]
-pub fn is_idle(c: Counter, new: u8) -> bool
-    ensures { result ≡ idle new c }
-{
-    inputs::none_rises(c.levels, new) & (rules::mode(c) < 6)
-}
-
-// What the sample makes of ACC and the flags.
-#[tactic(auto, unfolding(crate::specs::Sample::sampled))]
-pub fn sampled(c: Counter, new: u8) -> Sampled
-    ensures { result ≡ sampled new c }
-{
-    if resets(c, new) {
-        reset(c.flags)
-    } else {
-        counted_by(count(c, new), c)
+impl Counter {
+    fn unmoved(&self) -> Sampled
+        ensures { sampled_of result ≡ unmoved self.now }
+    {
+        Sampled {
+            acc: self.acc,
+            flags: self.flags,
+            cause: None,
+        }
     }
-}
 
-// The counter after the sample: new levels, ACC and flags, and then the cause.
-pub fn sample(c: Counter, new: u8) -> Counter
-    ensures { result ≡ sample new c }
-{
-    let r = sampled(c, new);
-    let mut d = c;
-    d.levels = new;
-    d.acc = r.acc;
-    d.flags = r.flags;
-    if r.cause == 0 {
-        d
-    } else {
-        causes::raise(d, r.cause)
+    fn counted_up(&self) -> Sampled
+        ensures { sampled_of result ≡ counted_up self.now }
+    {
+        let active = &self.active;
+        let single = active.up_only();
+        let r = accumulator::up(single, self.acc, active.hip, active.ovf, active.unf);
+        Sampled {
+            acc: r.acc,
+            flags: up_flags(single, r.cause, self.flags),
+            cause: r.cause,
+        }
+    }
+
+    fn counted_down(&self) -> Sampled
+        ensures { sampled_of result ≡ counted_down self.now }
+    {
+        let active = &self.active;
+        let r = accumulator::down(self.acc, active.lop, active.ovf, active.unf);
+        Sampled {
+            acc: r.acc,
+            flags: down_flags(r.cause, self.flags),
+            cause: r.cause,
+        }
+    }
+
+    #[tactic(auto, unfolding(crate::specs::Sample::counted_by))]
+    fn counted_by(&self, way: Option<Count>) -> Sampled
+        ensures { sampled_of result ≡ counted_by (count_of way) self.now }
+    {
+        match way {
+            Some(Count::Up) => self.counted_up(),
+            Some(Count::Down) => self.counted_down(),
+            None => self.unmoved(),
+        }
+    }
+
+    /// Whether the sample resets: settings are loaded, and the inputs reset in their mode.
+    #[tactic(auto, unfolding(crate::specs::Sample::resets))]
+    fn resets(&self, new: u8) -> bool
+        ensures { result ≡ resets new self.now }
+    {
+        self.has(flag::LOADED) & inputs::reset_by(self.active.mode(), self.levels, new)
+    }
+
+    /// Whether the sample may count: CE is 1, and no input inhibits it.
+    #[tactic(auto, unfolding(crate::specs::Sample::may_count))]
+    fn may_count(&self, new: u8) -> bool
+        ensures { result ≡ may_count new self.now }
+    {
+        self.has(flag::LOADED) & (self.has(flag::CE) & !inputs::inhibited(self.active.mode(), new))
+    }
+
+    /// The count that the sample makes.
+    #[tactic(auto, unfolding(crate::specs::Sample::count))]
+    fn count(&self, new: u8) -> Option<Count>
+        ensures { count_of result ≡ count new self.now }
+    {
+        if self.resets(new) {
+            None
+        } else if self.may_count(new) {
+            inputs::direction(self.active.mode(), self.levels, new)
+        } else {
+            None
+        }
+    }
+
+    /// Whether it is told at once that nothing comes of the sample but its levels: no input
+    /// rises, in a mode that goes by rises alone.
+    #[tactic(auto, unfolding(crate::specs::Idle::idle, crate::specs::Idle::by_rises))]
+    pub fn is_idle(&self, new: u8) -> bool
+        ensures { result ≡ idle new self.now }
+    {
+        inputs::none_rises(self.levels, new) & inputs::by_rises(self.active.mode())
+    }
+
+    /// What the sample makes of ACC and the flags.
+    #[tactic(auto, unfolding(crate::specs::Sample::sampled))]
+    pub fn sampled(&self, new: u8) -> Sampled
+        ensures { sampled_of result ≡ sampled new self.now }
+    {
+        if self.resets(new) {
+            reset(self.flags)
+        } else {
+            self.counted_by(self.count(new))
+        }
+    }
+
+    /// Takes an input sample: new levels, ACC and flags, and then the cause.
+    pub fn sample(&mut self, new: u8)
+        ensures { self.new ≡ sample new self.old }
+    {
+        let r = self.sampled(new);
+        self.levels = new;
+        self.acc = r.acc;
+        self.flags = r.flags;
+        if let Some(cause) = r.cause {
+            self.raise(cause);
+        }
     }
 }

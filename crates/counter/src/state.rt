@@ -1,12 +1,13 @@
-// The counter's parts, and the counter as it starts.
-ghost use Rattle.std.specs.Prelude.{◌≡◌};
-ghost use Rattle.counter.specs.Parts.{fresh};
+//! The counter's parts, and the counter as it starts.
+ghost use Rattle.std.specs.Prelude.{◌≡◌, ◌<◌};
+ghost use Rattle.word.specs.Masks.{bit};
+ghost use Rattle.counter.specs.Parts.{fresh, on, off};
 
-use super::desk;
-use super::desk::Desk;
+use crate::desk::Desk;
+use word::bits;
 
-// What a load copies from staged to active, in the snapshot's order.
-#[derive(Clone, Copy)]
+/// What a load copies from staged to active, in the snapshot's order.
+#[derive(Clone, Copy, Debug, PartialEq, Eq, Default)]
 pub struct Settings {
     pub pfn: i16,
     pub mode: i16,
@@ -19,7 +20,8 @@ pub struct Settings {
     pub lpo: u16,
 }
 
-#[derive(Clone, Copy)]
+/// All that a counter is between two events.
+#[derive(Clone, Copy, Debug, PartialEq, Eq)]
 pub struct Counter {
     pub staged: Settings,
     pub active: Settings,
@@ -31,58 +33,52 @@ pub struct Counter {
     pub desk: Desk,
 }
 
-// What an input sample asks for.
-#[derive(Clone, Copy)]
-pub enum Count {
-    None,
-    Up,
-    Down,
-}
+impl Counter {
+    /// A counter that was never set up: nothing is loaded, and every cause may interrupt.
+    #[tactic(auto, unfolding(crate::specs::Parts::fresh, word::specs::Masks::set_bit))]
+    pub fn fresh() -> Self
+        ensures { result ≡ fresh }
+    {
+        let staged = Settings {
+            hip: i32::MAX,
+            lop: i32::MIN,
+            ovf: i32::MAX,
+            unf: i32::MIN,
+            ..Settings::default()
+        };
+        Counter {
+            staged,
+            active: Settings::default(),
+            acc: 0,
+            out: 0,
+            er: 0,
+            flags: 0b111_1000_0000,
+            levels: 0,
+            desk: Desk::empty(),
+        }
+    }
 
-// What an input sample makes of ACC and of the flags, and the cause that it raises, 0 for none.
-#[derive(Clone, Copy)]
-pub struct Sampled {
-    pub acc: i32,
-    pub flags: u32,
-    pub cause: u8,
-}
+    /// Whether a flag, by its bit, is 1.
+    pub fn has(&self, n: u32) -> bool
+        requires { n < 32 }
+        ensures { result ≡ bit self.now.flags n }
+    {
+        bits::has(self.flags, n)
+    }
 
-// A counter that was never set up.
-#[tactic(auto, unfolding(crate::specs::Parts::fresh, word::specs::Masks::set_bit))]
-pub fn fresh() -> Counter
-    ensures { result ≡ fresh }
-{
-    let staged = Settings {
-        pfn: 0,
-        mode: 0,
-        hip: 2147483647,
-        lop: -2147483648,
-        ovf: 2147483647,
-        unf: -2147483648,
-        omb: 0,
-        hpo: 0,
-        lpo: 0,
-    };
-    let active = Settings {
-        pfn: 0,
-        mode: 0,
-        hip: 0,
-        lop: 0,
-        ovf: 0,
-        unf: 0,
-        omb: 0,
-        hpo: 0,
-        lpo: 0,
-    };
-    let desk = desk::empty();
-    Counter {
-        staged,
-        active,
-        acc: 0,
-        out: 0,
-        er: 0,
-        flags: 1920,
-        levels: 0,
-        desk,
+    /// Sets a flag to 1.
+    pub fn set(&mut self, n: u32)
+        requires { n < 32 }
+        ensures { self.new ≡ on n self.old }
+    {
+        self.flags = bits::set(self.flags, n);
+    }
+
+    /// Sets a flag to 0.
+    pub(crate) fn clear(&mut self, n: u32)
+        requires { n < 32 }
+        ensures { self.new ≡ off n self.old }
+    {
+        self.flags = bits::clear(self.flags, n);
     }
 }

@@ -1,12 +1,10 @@
-// What is refused before anything is written: a length, then an illegal event, then the snapshot.
+//! What is refused before anything is written: a length, then an illegal event, then the snapshot.
 ghost use Rattle.std.specs.Prelude.{◌≡◌, length};
 ghost use Rattle.refusal.specs.Refusals.{answer_of};
 ghost use Rattle.image.specs.Editions.{system};
 ghost use Rattle.draw.specs.Drawing.{sizes_verdict, legal_verdict, form_verdict, draw_verdict};
 
-use image::edition;
-use image::edition::Edition;
-use image::events::first_illegal;
+use image::edition::{self, Edition, first_illegal};
 use refusal::{Refusal, told_place};
 use snapshot::EVENT_SIZE;
 

@@ -6,7 +6,6 @@ ghost use Rattle.hsc.specs.Calls.{compare_status, compare_count, rest_number, re
 use compare::compare;
 use compare::rest::{longer, rest};
 use refusal::status_of;
-use word::parts::shorter;
 
 // Writes the places where the traces differ into the row, and their number into count. A refusal leaves both as they were.
 pub fn hsc_compare(first: &[u8], second: &[u8], row: &mut [u32], count: &mut u32) -> u64
@@ -28,7 +27,7 @@ pub fn hsc_rest<'a>(first: &'a [u8], second: &'a [u8], part: &mut [u64; 2]) -> u
     ensures trace { result ≡ rest_number first.now second.now }
     ensures part { part.new ≡ rest_part first.now second.now }
 {
-    let place = shorter(first.len(), second.len());
+    let place = first.len().min(second.len());
     *part = [place as u64, rest(first, second).len() as u64];
     longer(first.len(), second.len()).number() as u32
 }

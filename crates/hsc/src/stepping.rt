@@ -7,13 +7,10 @@ ghost use Rattle.snapshot.specs.EventBytes.{step_event};
 ghost use Rattle.refusal.specs.Refusals.{answer_of};
 ghost use Rattle.hsc.specs.Calls.{event_verdict, step_verdict, step_answer, step_after};
 
-use image::edition::Edition;
-use image::events::advance;
 use refusal::{Refusal, status_of};
 use snapshot::event::legal_event;
 use snapshot::form::formed;
-use snapshot::split::{load_moving, write_over};
-use snapshot::{EVENT_SIZE, MOVING_SIZE, SNAPSHOT_SIZE};
+use snapshot::{EVENT_SIZE, MOVING_SIZE, SNAPSHOT_SIZE, split};
 
 // Refusals 5 and 6, where every length is right.
 fn event_verdict(snapshot: &[u8], event: &[u8]) -> Result<(), Refusal>
@@ -43,16 +40,16 @@ fn step_verdict(snapshot: &[u8], event: &[u8]) -> Result<(), Refusal>
     event_verdict(snapshot, event)
 }
 
-// Writes the next snapshot over this one: a row of one event.
+// Writes the next snapshot over this one, whose bytes hold the state meanwhile.
 fn step_over(snapshot: &mut [u8], event: &[u8])
     requires snapshot_formed { (length snapshot.old ≡ snapshot_size) × (formed snapshot.old ≡ true) }
     requires event_whole { length event.now ≡ event_size }
     ensures { snapshot.new ≡ encode (step_event event.now (decode snapshot.old)) }
 {
     let mut moving = [0u8; MOVING_SIZE];
-    load_moving(snapshot, &mut moving);
-    advance(Edition::Base, event, 0, 1, snapshot, &mut moving);
-    write_over(snapshot, 0, &moving);
+    split::load_moving(snapshot, &mut moving);
+    split::step_over(snapshot, &mut moving, event, 0);
+    split::write_over(snapshot, 0, &moving);
 }
 
 // Takes the event: the next snapshot stands over the lent one. A refusal leaves it as it was.

@@ -2,14 +2,16 @@
 ghost use Rattle.std.specs.Prelude.{◌≡◌, ◌+◌, ◌*◌, ◌^◌, ◌≤◌, ◌<◌, length};
 ghost use Rattle.word.specs.LittleEndian.{number_at};
 ghost use Rattle.refusal.specs.Refusals.{answer_of};
+ghost use Rattle.replay.specs.Traces.{shape_of as trace_shape};
 ghost use Rattle.snapshot.specs.Widths.{event_size};
-ghost use Rattle.image.specs.Header.{header_size, max_events, edition_of};
+ghost use Rattle.image.specs.Header.{header_size, max_events, shape_of, edition_of};
 ghost use Rattle.image.specs.Header.{limits_broken, offsets_broken, header_verdict};
 
 use crate::edition::{Edition, edition_at};
 use refusal::Refusal;
+use replay::trace::Trace;
 use snapshot::EVENT_SIZE;
-use word::bytes;
+use word::bytes::LittleEndian;
 
 /// The bytes of the header.
 pub const SIZE: usize = 24;
@@ -42,7 +44,7 @@ pub fn number(image: &[u8], at: usize) -> usize
     requires { at + 4 ≤ length image.now }
     ensures { result ≡ number_at image.now at 4 }
 {
-    bytes::read_u32(image, at) as usize
+    u32::read(image, at) as usize
 }
 
 /// The edition that the header tells.
@@ -51,6 +53,18 @@ pub fn edition(image: &[u8]) -> Edition
     ensures { result ≡ edition_of image.now }
 {
     edition_at(number(image, SIXTH))
+}
+
+/// The trace that the header tells.
+pub fn trace(image: &[u8]) -> Trace
+    requires { header_size ≤ length image.now }
+    ensures { trace_shape result ≡ shape_of image.now }
+{
+    Trace {
+        header: SIZE,
+        count: number(image, EVENT_COUNT),
+        spacing: number(image, SPACING),
+    }
 }
 
 /// The byte at which event `i` begins.

@@ -11,7 +11,7 @@ ghost use Rattle.reader.specs.WellFormed.{blank};
 use image::edition::{Edition, edition_at};
 use image::{edition, header};
 use refusal::Refusal;
-use word::bytes;
+use word::bytes::LittleEndian;
 use word::parts::{copy_over, same};
 
 pub const TAKEN: usize = 0;
@@ -33,14 +33,14 @@ pub fn number(reader: &[u8], at: usize) -> usize
     requires { at + 4 ≤ length reader.now }
     ensures { (result ≡ number_at reader.now at 4) × (result < 2 ^ 32) }
 {
-    bytes::read_u32(reader, at) as usize
+    u32::read(reader, at) as usize
 }
 
 pub fn write_number(reader: &mut [u8], at: usize, v: usize)
     requires { (at + 4 ≤ length reader.old) × (v < 2 ^ 32) }
     ensures { reader.new ≡ put reader.old at (to_bytes 4 v) }
 {
-    bytes::write_u32(reader, at, v as u32);
+    (v as u32).write(reader, at);
 }
 
 // The header's number from its byte at on.

@@ -7,16 +7,14 @@ use Prim.Native.Nat.{ℕ, ◌≤◌}
 use borrow.Author.Tests.{eq-eqb}
 use lib.Dec.{eqb}
 use Rattle.word.specs.Masks.{bit}
-use Rattle.word.specs.Part.{part}
 use Rattle.counter.specs.declared.state.Counter.{Counter}
 use Rattle.counter.specs.Desk.{first, second}
-use Rattle.counter.specs.WellFormed.{parts_formed, well_formed}
+use Rattle.counter.specs.WellFormed.{well_formed}
 use Rattle.counter.proofs.Masked.{mask-formed}
 use Rattle.counter.proofs.Merging.{equal-formed}
-use Rattle.snapshot.specs.Widths.{snapshot_size}
 use Rattle.snapshot.specs.Snapshots.{decode, state_at}
 use Rattle.snapshot.specs.FormedBytes.{formed_at, formed}
-use Rattle.snapshot.proofs.Offsets.{decode-places, decode-part}
+use Rattle.snapshot.proofs.Offsets.{decode-places}
 
 pub formed-decode : (b : List ℕ) → formed b ≡ well_formed (decode b)
 unfolding formed well_formed
@@ -31,11 +29,3 @@ formed-mask b n l h = formed-decode b ∙ mask-formed (decode b) n l h
 -- one in which two equal causes wait is not
 pub formed-equal : (b : List ℕ) → eqb (second (decode b).desk) 0 ≡ false → first (decode b).desk ≡ second (decode b).desk → formed b ≡ false
 formed-equal b two same = formed-decode b ∙ equal-formed (decode b) two same
-
-abbrev by_parts : Counter → Bool
-by_parts c = parts_formed c.active c.out c.er c.flags c.levels c.desk.running (first c.desk) (second c.desk)
-
--- well formed inside an image
-pub formed-part : (s : List ℕ) (at : ℕ) → formed (part s at snapshot_size) ≡ formed_at s at
-unfolding formed
-formed-part s at = ap by_parts (sym (decode-places (part s at snapshot_size)) ∙ decode-part s at)

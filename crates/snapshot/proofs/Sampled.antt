@@ -7,10 +7,9 @@ use mir.Val.{SFits}
 use Rattle.word.specs.TwosComplement.{signed, unsigned}
 use Rattle.word.proofs.TwosComplement.{signed-unsigned}
 use Rattle.counter.specs.declared.state.Counter.{Counter}
-use Rattle.counter.specs.declared.state.Sampled.{Sampled}
 use Rattle.counter.specs.Parts.{with_acc, with_flags, with_levels}
 use Rattle.counter.specs.Interrupts.{raise}
-use Rattle.counter.specs.Sample.{sampled, applied, sample}
+use Rattle.counter.specs.Sample.{Sampled, sampled, applied, sample}
 use Rattle.counter.specs.Events.{is_sample}
 use Rattle.counter.proofs.Raising.{raise-none}
 use Rattle.snapshot.specs.declared.event.Event.{Event}

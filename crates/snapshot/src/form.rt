@@ -1,31 +1,16 @@
-// Whether a snapshot is well formed.
+//! Whether a snapshot is well formed.
 ghost use Rattle.std.specs.Prelude.{◌≡◌, ◌+◌, ◌≤◌, length};
 ghost use Rattle.word.specs.Part.{part};
 ghost use Rattle.snapshot.specs.Widths.{snapshot_size};
 ghost use Rattle.snapshot.specs.FormedBytes.{formed};
 
-use crate::places;
-use crate::settings::read_settings;
-use counter::wellformed::parts_formed;
-use word::bytes;
+use crate::codec::decode;
 
-// Whether the snapshot from byte at is well formed.
+/// Whether the snapshot from byte at is well formed.
 pub fn formed(s: &[u8], at: usize) -> bool
     requires { at + snapshot_size ≤ length s.now }
     ensures { result ≡ formed (part s.now at snapshot_size) }
 {
-    let active = read_settings(s, at + places::ACTIVE);
-    let out = bytes::read_u16(s, at + places::OUTPUTS);
-    let er = bytes::read_u16(s, at + places::ER);
-    let flags = bytes::read_u32(s, at + places::FLAGS);
-    parts_formed(
-        active,
-        out,
-        er,
-        flags,
-        s[at + places::LEVELS],
-        s[at + places::RUNNING],
-        s[at + places::FIRST],
-        s[at + places::SECOND],
-    )
+    let c = decode(s, at);
+    c.is_well_formed()
 }

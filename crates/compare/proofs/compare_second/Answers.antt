@@ -14,16 +14,16 @@ use Rattle.compare.proofs.compare_second.Goals as goal
 pub list-requires : goal.list-requires
 list-requires c =
     let only-second = front-passed _ _ c.requires in
-    let within : c.shorter-count.result ≤ events_in c.args.second.now = omega (arith, c.shorter-count.ensures) in
+    let within : c.min-count.result ≤ events_in c.args.second.now = omega (arith, c.min-count.ensures) in
     let counts = part-passed _ _ within _ _ (sym (ap answer_of c.in_ok-n.was) ∙ c.count_differences.ensures) in
     let accepted = accepted-answer _ _ c.trace_verdict.ensures c.in_ok-trace_verdict.was in
-    record { accepted = (sym only-second ∙ accepted, c.shorter-count.ensures); counted = counts.1 }
+    record { accepted = (sym only-second ∙ accepted, c.min-count.ensures); counted = counts.1 }
 
 pub returns-in_err-n : goal.returns-in_err-n
 returns-in_err-n c =
     let r = c.in_err-n.field-0.0 in
     let same : c.from_residual.result ≡ Err r = search rules in
-    let within : c.shorter-count.result ≤ events_in c.args.second.now = omega (arith, c.shorter-count.ensures) in
+    let within : c.min-count.result ≤ events_in c.args.second.now = omega (arith, c.min-count.ensures) in
     let refused = sym (ap answer_of c.in_err-n.was) ∙ c.count_differences.ensures in
     let all = not-compared _ _ _ r (part-refused _ _ within r _ refused ∙ front-passed _ _ c.requires) in
     record { answer = ap answer_of same ∙ all.0; row = all.1 }

@@ -1,19 +1,12 @@
--- `snapshot::form::formed` meets its contract: each part is read at its place.
-use mathlib.Core.Path.{◌∙◌}
-use native.Mathlib.Omega.{arith}
-use Rattle.word.proofs.LittleEndian.{byte-at}
-use Rattle.counter.specs.WellFormed.{parts_formed}
+-- `snapshot::form::formed` meets its contract: the state that the snapshot holds is asked, which says the same.
+use mathlib.Core.Path.{sym, ap, ◌∙◌}
+use Rattle.word.specs.Part.{part}
+use Rattle.counter.specs.WellFormed.{well_formed}
 use Rattle.snapshot.specs.Widths.{snapshot_size}
-use Rattle.snapshot.specs.Places.{levels_at, running_at, first_at, second_at}
-use Rattle.snapshot.proofs.Rules.{formed-part}
+use Rattle.snapshot.proofs.Rules.{formed-decode}
 use Rattle.snapshot.proofs.form.formed.Goals as goal
 
 pub returns : goal.returns
 returns c =
-    let s = c.args.s.now in
-    let at = c.args.at in
-    let byte = byte-at s at snapshot_size c.requires in
-    rw (formed-part s at)
-    (c.parts_formed.ensures
-    ∙ (λ i. parts_formed (c.read_settings-active.ensures i) (c.read_u16-out.ensures i) (c.read_u16-er.ensures i) (c.read_u32-flags.ensures i)
-    (byte levels_at (omega arith) i) (byte running_at (omega arith) i) (byte first_at (omega arith) i) (byte second_at (omega arith) i)))
+    let snapshot = part c.args.s.now c.args.at snapshot_size in
+    c.is_well_formed.ensures ∙ ap well_formed c.decode-c.ensures ∙ sym (formed-decode snapshot)

@@ -8,5 +8,5 @@ use Rattle.snapshot.proofs.split.control_over.Goals as goal
 pub returns : goal.returns
 returns c =
     let a = c.args in
-    let next = c.step_control-next.ensures ∙ ap₂ (step_control a.kind a.sub) (signed-unsigned c.ranges.v) c.read_state.ensures in
+    let next = c.step_control.ensures ∙ ap₂ (step_control a.kind a.sub) (signed-unsigned c.ranges.v) c.read_state-c.ensures in
     holds-as c.write_state.new.s c.write_state.new.moving next c.write_state.ensures
