@@ -8,7 +8,7 @@ use Rattle.image.proofs.checked.Checked.start_verdict.Goals as goal
 pub formed-requires : goal.formed-requires
 formed-requires c =
     let checked = c.args.self.now in
-    rw c.snapshot_at.ensures (snapshot-inside _ (image-passed _ checked.passes) _ (omega (arith, c.requires)) checked.headed.edition_told)
+    rw c.snapshot_at.ensures (snapshot-inside _ (image-passed _ checked.passes) c.args.s (omega (arith, c.requires)) checked.headed.edition_told)
 
 pub returns-then-not-formed : goal.returns-then-not-formed
 returns-then-not-formed c =
