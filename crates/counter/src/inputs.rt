@@ -50,7 +50,7 @@ pub fn none_rises(old: u8, new: u8) -> bool
 /// Whether the inputs reset: in mode 7 input 0 falls with 1 off and 2 on, in 1, 3 and 5 input 2
 /// rises.
 #[tactic(auto, unfolding(crate::specs::Sample::reset_by, crate::specs::Sample::has_reset))]
-pub fn reset_by(mode: Option<Mode>, old: u8, new: u8) -> bool
+pub(crate) fn reset_by(mode: Option<Mode>, old: u8, new: u8) -> bool
     ensures { result ≡ reset_by (mode_number mode) old new }
 {
     match mode {
@@ -62,7 +62,7 @@ pub fn reset_by(mode: Option<Mode>, old: u8, new: u8) -> bool
 
 /// Whether an input inhibits the count: the hold in 1, 3, 5 and 7, and in 7 input 2 as well.
 #[tactic(auto, unfolding(crate::specs::Sample::inhibited, crate::specs::Sample::has_reset))]
-pub fn inhibited(mode: Option<Mode>, new: u8) -> bool
+pub(crate) fn inhibited(mode: Option<Mode>, new: u8) -> bool
     ensures { result ≡ inhibited (mode_number mode) new }
 {
     match mode {
@@ -126,7 +126,7 @@ fn by_phase(old: u8, new: u8) -> Option<Count>
 
 /// What the mode makes of a sample.
 #[tactic(auto, unfolding(crate::specs::Sample::direction))]
-pub fn direction(mode: Option<Mode>, old: u8, new: u8) -> Option<Count>
+pub(crate) fn direction(mode: Option<Mode>, old: u8, new: u8) -> Option<Count>
     ensures { count_of result ≡ direction (mode_number mode) old new }
 {
     match mode? {
