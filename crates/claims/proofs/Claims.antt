@@ -13,6 +13,7 @@ use mir.Syntax.{w32}
 use mir.Val.{SFits}
 use denote.MutBor.{MutBor}
 use denote.Ref.{Bor}
+use Rattle.std.specs.Prelude.{Result}
 use Rattle.word.specs.Masks.{bit}
 use Rattle.word.specs.Part.{Bytes, part}
 use Rattle.counter.specs.declared.state.Settings.{Settings}
@@ -32,8 +33,7 @@ use Rattle.snapshot.specs.FormedBytes.{formed}
 use Rattle.snapshot.specs.EventBytes.{legal_event, step_event}
 use Rattle.snapshot.specs.Split.{split_state, HoldsIfGood}
 use Rattle.refusal.specs.declared.Refusal.{Refusal}
-use Rattle.refusal.specs.declared.Verdict.{Verdict}
-use Rattle.refusal.specs.Refusals.{Answer, refused_in, given, number_of, trace_of, verdict_of, status_of, Placed, changed_if}
+use Rattle.refusal.specs.Refusals.{Answer, refused_in, given, number_of, trace_of, answer_of, status_of, Placed, changed_if}
 use Rattle.replay.specs.System.{System, Laws}
 use Rattle.replay.specs.Image.{Shape, snapshots, snapshot_place, first_snapshot, event_place, changed, Fitting}
 use Rattle.replay.specs.Events.{first_illegal}
@@ -43,12 +43,11 @@ use Rattle.replay.specs.Claim.{Mended}
 use Rattle.image.specs.declared.edition.Edition.{Edition}
 use Rattle.image.specs.declared.edition.Edition.TheVariants.{Base}
 use Rattle.image_mend.specs.declared.Span.{Span}
-use Rattle.image_mend.specs.declared.Mending.{Mending}
 use Rattle.image.specs.Editions.{system}
 use Rattle.image.specs.Header.{shape_of, system_of}
 use Rattle.image.specs.Verdicts.{replay_verdict, ValidTrace}
 use Rattle.image_replay.specs.Replays.{TrueTable, final_state, replay_image, replay_last}
-use Rattle.image_mend.specs.Mends.{mend_answer, mend_image, mend_of}
+use Rattle.image_mend.specs.Mends.{mend_answer, mend_image}
 use Rattle.image_mend.specs.Demand3.{Edit, Demand3}
 use Rattle.image_mend.specs.Ran.{Ran}
 use Rattle.hsc.specs.Version.{version}
@@ -200,7 +199,7 @@ pub status-place : (number trace place : ℕ) → number < 2 ^ 16 → trace < 2 
 status-place = hsc.Status.status-place
 
 -- status 0 says that nothing is refused
-pub status-done : (v : Verdict) → status_of (verdict_of v) ≡ 0 → verdict_of v ≡ given tt
+pub status-done : (v : Result Unit Refusal) → status_of (answer_of v) ≡ 0 → answer_of v ≡ given tt
 status-done = refusals.status-done
 
 -- with any other status a lent buffer, which a verdict changes by `changed_if`, is as it was
@@ -354,13 +353,13 @@ step-over κs s s' moving moving' events events' at at' = (refl, refl)
 pub mend-met : {M : Type 1} → mending.mend.Statement.statement M
 mend-met = mending.mend.Met.met
 
-pub mend-contract : (κs : _) (image image' : MutBor (List ℕ)) (patch patch' : Bor (List ℕ)) (first first' : ℕ) (r : Mending)
+pub mend-contract : (κs : _) (image image' : MutBor (List ℕ)) (patch patch' : Bor (List ℕ)) (first first' : ℕ) (r : Result Span Refusal)
     → (mending.mend.Reads.Asked κs (image, (first, (patch, tt))) ≡ Unit)
     × (mending.mend.Reads.Learnt κs (image, (first, (patch, tt))) r (image', (first', (patch', tt)))
-    ≡ ((mend_of r ≡ mend_answer image.now first patch.now)
+    ≡ ((answer_of r ≡ mend_answer image.now first patch.now)
     × ((image'.now ≡ mend_image image.now first patch.now)
-    × (((n : ℕ) → Edit image.now first n patch.now → Demand3 image.now first n patch.now (mend_of r) image'.now)
-    × ((s : Span) → mend_of r ≡ given s → Ran image.now first patch.now s.ran)))))
+    × (((n : ℕ) → Edit image.now first n patch.now → Demand3 image.now first n patch.now (answer_of r) image'.now)
+    × ((s : Span) → answer_of r ≡ given s → Ran image.now first patch.now s.ran)))))
 mend-contract κs image image' patch patch' first first' r = (refl, refl)
 
 -- what answers and leaves as mending's definitions say meets demand 3

@@ -4,14 +4,12 @@ use Rattle.std.specs.Prelude.{Bool, cond, not, ◌||◌, List, ◌++◌, ℕ, �
 use Rattle.snapshot.specs.Widths.{event_size}
 use Rattle.refusal.specs.declared.Trace.{Trace}
 use Rattle.refusal.specs.declared.Trace.TheVariants.{First, Second}
-use Rattle.refusal.specs.Refusals.{Answer, refused, given, refusal, in_trace, ◌and_then◌, after}
+use Rattle.refusal.specs.Refusals.{Answer, refused, given, in_trace, ◌and_then◌, after}
 use Rattle.image.specs.Editions.{base}
 use Rattle.image.specs.Header.{max_events}
 use Rattle.image.specs.Rows.{events_in}
 use Rattle.image.specs.Verdicts.{events_verdict}
 use Rattle.compare.specs.Places.{differences}
-use Rattle.compare.specs.declared.Comparison.{Comparison}
-use Rattle.compare.specs.declared.Comparison.TheVariants.{Refused, Listed}
 
 -- ---- what is refused
 
@@ -44,8 +42,3 @@ compare_answer first second room = traces_verdict first second and_then listed r
 unfoldable pub compare_row : List ℕ → List ℕ → List ℕ → List ℕ
 compare_row first second row =
     after (compare_answer first second (length row)) row (λ n. differences first second ++ drop n row)
-
--- what the call's enum says: the refusal, or how many places differ
-abbrev pub comparison_of : Comparison → Answer ℕ
-comparison_of (Refused r) = refusal r
-comparison_of (Listed n) = given n

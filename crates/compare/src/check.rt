@@ -1,16 +1,15 @@
-// What is refused of two traces: a length, then an illegal event of the first, then one of the second.
+//! What is refused of two traces: a length, then an illegal event of the first, then one of the second.
 ghost use Rattle.std.specs.Prelude.{◌≡◌, ◌≤◌};
 ghost use Rattle.refusal.specs.declared.Trace.TheVariants.{First};
-ghost use Rattle.refusal.specs.Refusals.{given, verdict_of, ◌and_then◌};
+ghost use Rattle.refusal.specs.Refusals.{given, answer_of, ◌and_then◌};
 ghost use Rattle.image.specs.Editions.{base};
 ghost use Rattle.image.specs.Rows.{events_in};
 ghost use Rattle.image.specs.Verdicts.{events_verdict};
 ghost use Rattle.compare.specs.Comparing.{bad_length, lengths_verdict, trace_verdict};
 
-use image::edition::Edition;
-use image::events::first_illegal;
+use image::edition::{Edition, first_illegal};
 use image::header::MAX_EVENTS;
-use refusal::{Refusal, Trace, Verdict};
+use refusal::{Refusal, Trace};
 use snapshot::EVENT_SIZE;
 
 // Whether the trace is no row of events, or too long.
@@ -22,35 +21,32 @@ fn bad_length(trace: &[u8]) -> bool
 
 // Refusal 9.
 #[tactic(auto, unfolding(crate::specs::Comparing::lengths_verdict))]
-fn lengths_verdict(first: &[u8], second: &[u8]) -> Verdict
-    ensures { verdict_of result ≡ lengths_verdict first.now second.now }
+fn lengths_verdict(first: &[u8], second: &[u8]) -> Result<(), Refusal>
+    ensures { answer_of result ≡ lengths_verdict first.now second.now }
 {
     if bad_length(first) | bad_length(second) {
-        return Verdict::Refused(Refusal::Size);
+        return Err(Refusal::Size);
     }
-    Verdict::Accepted
+    Ok(())
 }
 
-// Refusal 5 of one of two traces, whose first count events are legal.
-pub fn trace_verdict(t: Trace, trace: &[u8], count: usize) -> Verdict
+/// Refuses one of two traces, whose first `count` events are legal, by 5 at its first illegal event.
+pub fn trace_verdict(t: Trace, trace: &[u8], count: usize) -> Result<(), Refusal>
     requires { (count ≤ events_in trace.now) × (events_verdict base 5 trace.now 0 count ≡ given tt) }
-    ensures { verdict_of result ≡ trace_verdict t trace.now }
+    ensures { answer_of result ≡ trace_verdict t trace.now }
 {
     let left = trace.len() / EVENT_SIZE - count;
     let i = first_illegal(Edition::Base, trace, count * EVENT_SIZE, left);
     if i < left {
-        return Verdict::Refused(Refusal::TraceEvent(t, count + i));
+        return Err(Refusal::TraceEvent(t, count + i));
     }
-    Verdict::Accepted
+    Ok(())
 }
 
-// Refusals 9, and 5 of the first trace.
-pub fn first_verdict(first: &[u8], second: &[u8]) -> Verdict
-    ensures { verdict_of result ≡ (lengths_verdict first.now second.now and_then trace_verdict First first.now) }
+/// Refuses two traces by 9, and then the first of them by 5.
+pub fn first_verdict(first: &[u8], second: &[u8]) -> Result<(), Refusal>
+    ensures { answer_of result ≡ (lengths_verdict first.now second.now and_then trace_verdict First first.now) }
 {
-    let of_lengths = lengths_verdict(first, second);
-    match of_lengths {
-        Verdict::Refused(_) => of_lengths,
-        Verdict::Accepted => trace_verdict(Trace::First, first, 0),
-    }
+    lengths_verdict(first, second)?;
+    trace_verdict(Trace::First, first, 0)
 }

@@ -1,28 +1,27 @@
-// The places where two traces differ: counted while the second is checked, and written into a row.
+//! The places where two traces differ: counted while the second is checked, and written into a row.
 ghost use Rattle.std.specs.Prelude.{◌≡◌, true, ◌*◌, ◌≤◌, ◌<◌, eqb, length};
 ghost use Rattle.word.specs.Part.{part, put};
 ghost use Rattle.word.specs.LittleEndian.{number_at};
 ghost use Rattle.snapshot.specs.Widths.{event_size};
 ghost use Rattle.snapshot.specs.EventBytes.{legal_event};
 ghost use Rattle.refusal.specs.declared.Trace.TheVariants.{First, Second};
-ghost use Rattle.refusal.specs.Refusals.{given, in_trace, ◌and_then◌};
+ghost use Rattle.refusal.specs.Refusals.{answer_of, given, in_trace, ◌and_then◌};
 ghost use Rattle.image.specs.Editions.{base};
 ghost use Rattle.image.specs.Verdicts.{events_verdict};
 ghost use Rattle.compare.specs.Places.{differing, shared};
-ghost use Rattle.compare.specs.Comparing.{trace_verdict, traces_verdict, comparison_of};
+ghost use Rattle.compare.specs.Comparing.{trace_verdict, traces_verdict};
 
-use crate::Comparison;
-use image::edition::{Edition, legal};
 use refusal::{Refusal, Trace};
 use snapshot::EVENT_SIZE;
-use word::bytes::read_u64;
+use snapshot::event::legal_event;
+use word::bytes::LittleEndian;
 
 // Whether the events at place i have the same 8 bytes before their stamps: of legal ones, the same kind, sub and value.
 fn same_front(first: &[u8], second: &[u8], i: usize) -> bool
     requires { i < shared first.now second.now }
     ensures { result ≡ eqb (number_at first.now (i * event_size) 8) (number_at second.now (i * event_size) 8) }
 {
-    read_u64(first, i * EVENT_SIZE) == read_u64(second, i * EVENT_SIZE)
+    u64::read(first, i * EVENT_SIZE) == u64::read(second, i * EVENT_SIZE)
 }
 
 // Whether event i of the second trace is legal: it is where it has the bytes of the first's, which is.
@@ -33,35 +32,36 @@ fn legal_beside(first: &[u8], second: &[u8], i: usize) -> bool
     if same_front(first, second, i) {
         return true;
     }
-    legal(Edition::Base, second, i * EVENT_SIZE)
+    legal_event(second, i * EVENT_SIZE)
 }
 
-// Refusal 5 of the second's first count events, or how many of these places differ; the first trace's are legal.
-pub fn count_differences(first: &[u8], second: &[u8], count: usize) -> Comparison
+/// Counts at how many of the first `count` places two traces differ, or refuses the second by 5 at
+/// the first of these events that is illegal; the first trace's are legal.
+pub fn count_differences(first: &[u8], second: &[u8], count: usize) -> Result<usize, Refusal>
     requires { (trace_verdict First first.now ≡ given tt) × (count ≤ shared first.now second.now) }
-    ensures { comparison_of result ≡ (in_trace Second (events_verdict base 5 second.now 0 count)
+    ensures { answer_of result ≡ (in_trace Second (events_verdict base 5 second.now 0 count)
         and_then given (length (differing first.now second.now 0 count))) }
 {
     let mut n = 0;
-    let mut i = 0;
-    while i < count {
+    for i in 0..count {
         if !legal_beside(first, second, i) {
-            return Comparison::Refused(Refusal::TraceEvent(Trace::Second, i));
+            return Err(Refusal::TraceEvent(Trace::Second, i));
         }
         if !same_front(first, second, i) {
             n += 1;
         }
-        i += 1;
     }
-    Comparison::Listed(n)
+    Ok(n)
 }
 
-// Writes the places, of the first count, where two traces that are not refused differ, and which are n, from the row's start on.
+/// Writes the places, of the first `count`, where two traces that are not refused differ, and which
+/// are `n`, from the row's start on.
 pub fn write_differences(first: &[u8], second: &[u8], count: usize, n: usize, row: &mut [u32])
     requires accepted { (traces_verdict first.now second.now ≡ given tt) × (count ≤ shared first.now second.now) }
     requires counted { (n ≡ length (differing first.now second.now 0 count)) × (n ≤ length row.old) }
     ensures { row.new ≡ put row.old 0 (differing first.now second.now 0 count) }
 {
+    // It leaves off at the last difference, and not at the last event: so no `for` over the places.
     let mut k = 0;
     let mut i = 0;
     while k < n {

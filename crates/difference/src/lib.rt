@@ -1,5 +1,6 @@
-// Two parts of bytes compared up to the first place where they differ: document 02, request 3. Blocks are compared whole, so that the
-// compiler compares their bytes at once; the byte is looked for in the first block that differs.
+//! Two parts of bytes compared up to the first place where they differ. Blocks are compared whole,
+//! so that the compiler compares their bytes at once; the byte is looked for in the first block
+//! that differs.
 #![tactic(auto)]
 
 ghost use Rattle.std.specs.Prelude.{◌≡◌, ◌+◌, ◌≤◌, min, length};
@@ -7,10 +8,11 @@ ghost use Rattle.word.specs.Part.{part};
 ghost use Rattle.word.specs.Same.{same_bytes};
 ghost use Rattle.difference.specs.FirstDifference.{first_difference};
 
-use word::parts::{same, shorter};
+use word::parts::same;
 
-// The bytes of a block: a line of the cache, by four of the registers that every x86-64 machine has. It is the widest that a snapshot has
-// whole, and the narrowest that the compiler compares within mending's own loop.
+// The bytes of a block: a line of the cache, by four of the registers that every x86-64 machine
+// has. It is the widest that a snapshot has whole, and the narrowest that the compiler compares
+// within mending's own loop.
 const BLOCK_SIZE: usize = 64;
 
 // Whether the blocks of this size from byte at on are the same.
@@ -19,8 +21,7 @@ fn same_block(first: &[u8], second: &[u8], at: usize, size: usize) -> bool
     requires { (at + size ≤ length first.now) × (at + size ≤ length second.now) }
     ensures { result ≡ same_bytes (part first.now at size) (part second.now at size) }
 {
-    let end = at + size;
-    same(&first[at..end], &second[at..end])
+    same(&first[at..at + size], &second[at..at + size])
 }
 
 // The first difference where it is before byte end, else end. None is before byte from.
@@ -29,27 +30,25 @@ fn scan(first: &[u8], second: &[u8], from: usize, end: usize) -> usize
     requires same_before { from ≤ first_difference first.now second.now }
     ensures { result ≡ min end (first_difference first.now second.now) }
 {
-    let mut i = from;
-    while i < end {
+    for i in from..end {
         if first[i] != second[i] {
             return i;
         }
-        i += 1;
     }
-    i
+    end
 }
 
-// The first place where the two differ; the shorter's length if there is none within it.
+/// The first place where the two differ; the shorter's length if there is none within it.
 pub fn first_difference(first: &[u8], second: &[u8]) -> usize
     ensures { result ≡ first_difference first.now second.now }
 {
-    let n = shorter(first.len(), second.len());
-    let mut i = 0;
-    while BLOCK_SIZE <= n - i {
-        if !same_block(first, second, i, BLOCK_SIZE) {
-            return scan(first, second, i, i + BLOCK_SIZE);
+    let n = first.len().min(second.len());
+    let blocks = n / BLOCK_SIZE;
+    for block in 0..blocks {
+        let at = block * BLOCK_SIZE;
+        if !same_block(first, second, at, BLOCK_SIZE) {
+            return scan(first, second, at, at + BLOCK_SIZE);
         }
-        i += BLOCK_SIZE;
     }
-    scan(first, second, i, n)
+    scan(first, second, blocks * BLOCK_SIZE, n)
 }

@@ -1,7 +1,7 @@
 -- What a verdict that refuses nothing says of the buffers: their lengths are right, and a snapshot to step is well formed. Every refusal
 -- of a step or a reading is at place 0.
-use mathlib.Core.Path.{◌≡◌}
-use mathlib.Core.Bool.{Bool, true, not}
+use mathlib.Core.Path.{◌≡◌, sym, ap}
+use mathlib.Core.Bool.{Bool, true, false, not, false≢true}
 use mathlib.Core.List.{List}
 use Prim.Native.Nat.{ℕ}
 use borrow.Author.Tests.{eqb-true, not-false}
@@ -10,9 +10,20 @@ use lib.ListN.{length}
 use Rattle.snapshot.specs.Widths.{snapshot_size, event_size}
 use Rattle.snapshot.specs.FormedBytes.{formed}
 use Rattle.snapshot.specs.EventBytes.{legal_event}
-use Rattle.refusal.specs.Refusals.{given, Placed}
+use Rattle.std.specs.Prelude.{Result, Ok, Err, is_ok}
+use Rattle.refusal.specs.declared.Refusal.{Refusal}
+use Rattle.refusal.specs.Refusals.{Answer, given, answer_of, Placed, changed_if}
 use Rattle.refusal.proofs.Answers.{passed, placed-test}
 use Rattle.hsc.specs.Calls.{step_verdict, read_verdict}
+
+-- a verdict that is `Ok` refuses nothing, and one that is not leaves what was lent
+pub ok-passed : (v : Result Unit Refusal) {a : Answer Unit} → answer_of v ≡ a → is_ok v ≡ true → a ≡ given tt
+ok-passed (Ok x) e t = sym e
+ok-passed (Err r) e t = absurd (false≢true t)
+
+pub err-kept : {A : Type 0} (v : Result Unit Refusal) {a : Answer Unit} (old new : List A) → answer_of v ≡ a → is_ok v ≡ false → old ≡ changed_if a old new
+err-kept (Ok x) old new e t = absurd (false≢true (sym t))
+err-kept (Err r) old new e t = ap (λ (a : Answer Unit). changed_if a old new) e
 
 -- a step that is not refused
 pub record Steps (s e : List ℕ) : Type 0 where

@@ -4,5 +4,4 @@ pub mod Drawn
 mod Widened
 mod Whole
 mod Rows
-mod Written
 mod Done

@@ -2,6 +2,7 @@
 ghost use Rattle.std.specs.Prelude.{◌≡◌};
 ghost use Rattle.hsc.specs.Calls.{check_answer};
 
+use refusal::Refusal;
 use snapshot::EVENT_SIZE;
 use snapshot::event::legal_event;
 
@@ -10,7 +11,7 @@ pub fn hsc_event_check(event: &[u8]) -> u32
     ensures { result ≡ check_answer event.now }
 {
     if event.len() != EVENT_SIZE {
-        return 9;
+        return Refusal::Size.number() as u32;
     }
     if legal_event(event, 0) { 1 } else { 0 }
 }

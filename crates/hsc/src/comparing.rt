@@ -1,12 +1,11 @@
 // The calls on two traces: where they differ, and the rest of the longer.
-ghost use Rattle.std.specs.Prelude.{◌≡◌, [], ◌∷◌, length};
+ghost use Rattle.std.specs.Prelude.{◌≡◌};
 ghost use Rattle.compare.specs.Comparing.{compare_row};
 ghost use Rattle.hsc.specs.Calls.{compare_status, compare_count, rest_number, rest_part};
 
+use compare::compare;
 use compare::rest::{longer, rest};
-use compare::{Comparison, compare};
-use refusal::{Verdict, status_of, trace_number};
-use word::parts::shorter;
+use refusal::status_of;
 
 // Writes the places where the traces differ into the row, and their number into count. A refusal leaves both as they were.
 pub fn hsc_compare(first: &[u8], second: &[u8], row: &mut [u32], count: &mut u32) -> u64
@@ -15,21 +14,12 @@ pub fn hsc_compare(first: &[u8], second: &[u8], row: &mut [u32], count: &mut u32
     ensures count { count.new ≡ compare_count first.now second.now row.old count.old }
 {
     match compare(first, second, row) {
-        Comparison::Refused(r) => status_of(Verdict::Refused(r)),
-        Comparison::Listed(n) => {
+        Ok(n) => {
             *count = n as u32;
             0
         }
+        Err(refusal) => status_of(Err(refusal)),
     }
-}
-
-// Two numbers over two.
-fn write_part(part: &mut [u64], place: u64, size: u64)
-    requires { length part.old ≡ 2 }
-    ensures { part.new ≡ place ∷ size ∷ [] }
-{
-    part[0] = place;
-    part[1] = size;
 }
 
 // Tells the rest of the longer trace: which trace it is, and in part the place of the rest's first byte there and its length.
@@ -37,7 +27,7 @@ pub fn hsc_rest<'a>(first: &'a [u8], second: &'a [u8], part: &mut [u64; 2]) -> u
     ensures trace { result ≡ rest_number first.now second.now }
     ensures part { part.new ≡ rest_part first.now second.now }
 {
-    let place = shorter(first.len(), second.len());
-    write_part(part, place as u64, rest(first, second).len() as u64);
-    trace_number(longer(first.len(), second.len())) as u32
+    let place = first.len().min(second.len());
+    *part = [place as u64, rest(first, second).len() as u64];
+    longer(first.len(), second.len()).number() as u32
 }

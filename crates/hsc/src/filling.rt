@@ -1,33 +1,25 @@
 // The 32 numbers of a reading: the state, and the bits shown but not stored.
-ghost use Rattle.std.specs.Prelude.{◌≡◌, ◌+◌, ◌≤◌, pos, length};
-ghost use Rattle.word.specs.Part.{put};
+ghost use Rattle.std.specs.Prelude.{◌≡◌};
 ghost use Rattle.hsc.specs.Fields.{settings_fields, stored_fields, shown_fields, fields_of};
 
 use counter::state::{Counter, Settings};
-use word::sign;
+use word::parts::copy_over;
 
 // In the layout's order.
 fn settings_row(s: Settings) -> [i32; 9]
     ensures { result ≡ settings_fields s }
 {
     [
-        s.pfn as i32,
-        s.mode as i32,
+        i32::from(s.pfn),
+        i32::from(s.mode),
         s.hip,
         s.lop,
         s.ovf,
         s.unf,
-        s.omb as i32,
-        s.hpo as i32,
-        s.lpo as i32,
+        i32::from(s.omb),
+        i32::from(s.hpo),
+        i32::from(s.lpo),
     ]
-}
-
-// A byte as a number of the row.
-fn wide(b: u8) -> i32
-    ensures { result ≡ pos b }
-{
-    b as i32
 }
 
 // What else is stored; the flags stand by their signed reading.
@@ -38,13 +30,13 @@ fn stored_row(c: Counter) -> [i32; 8]
     let waiting = desk.waiting;
     [
         c.acc,
-        c.out as i32,
-        c.er as i32,
-        sign::i32_of(c.flags),
-        wide(c.levels),
-        wide(desk.running),
-        wide(waiting[0]),
-        wide(waiting[1]),
+        i32::from(c.out),
+        i32::from(c.er),
+        c.flags.cast_signed(),
+        i32::from(c.levels),
+        i32::from(desk.running),
+        i32::from(waiting[0]),
+        i32::from(waiting[1]),
     ]
 }
 
@@ -53,25 +45,13 @@ fn shown_row(c: Counter) -> [i32; 6]
     ensures { result ≡ shown_fields c }
 {
     [
-        c.uix() as i32,
-        c.uip() as i32,
-        c.cu() as i32,
-        c.cd() as i32,
-        c.hpr() as i32,
-        c.lpr() as i32,
+        i32::from(c.uix()),
+        i32::from(c.uip()),
+        i32::from(c.cu()),
+        i32::from(c.cd()),
+        i32::from(c.hpr()),
+        i32::from(c.lpr()),
     ]
-}
-
-// The row over the numbers from index at.
-fn copy_row(fields: &mut [i32], at: usize, row: &[i32])
-    requires { at + length row.now ≤ length fields.old }
-    ensures { fields.new ≡ put fields.old at row.now }
-{
-    let mut i = 0;
-    while i < row.len() {
-        fields[at + i] = row[i];
-        i += 1;
-    }
 }
 
 // Every number of the state.
@@ -82,8 +62,8 @@ pub fn fill(c: Counter, fields: &mut [i32; 32])
     let active = settings_row(c.active);
     let stored = stored_row(c);
     let shown = shown_row(c);
-    copy_row(fields, 0, &staged);
-    copy_row(fields, 9, &active);
-    copy_row(fields, 18, &stored);
-    copy_row(fields, 26, &shown);
+    copy_over(fields, 0, &staged);
+    copy_over(fields, 9, &active);
+    copy_over(fields, 18, &stored);
+    copy_over(fields, 26, &shown);
 }

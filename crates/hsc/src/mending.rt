@@ -1,20 +1,10 @@
 // The call that mends an image.
-ghost use Rattle.std.specs.Prelude.{◌≡◌, [], ◌∷◌, length};
+ghost use Rattle.std.specs.Prelude.{◌≡◌};
 ghost use Rattle.image_mend.specs.Mends.{mend_image};
 ghost use Rattle.hsc.specs.Calls.{mend_status, mend_span};
 
-use image_mend::{Mending, mend};
-use refusal::{Verdict, status_of};
-
-// Three numbers over three.
-fn write_span(span: &mut [u32], first: u32, stop: u32, ran: u32)
-    requires { length span.old ≡ 3 }
-    ensures { span.new ≡ first ∷ stop ∷ ran ∷ [] }
-{
-    span[0] = first;
-    span[1] = stop;
-    span[2] = ran;
-}
+use image_mend::mend;
+use refusal::status_of;
 
 // Copies the patch over the events from place first on and mends the snapshots: span holds the first compared, the stop and the events run. A
 // refusal leaves image and span as they were.
@@ -24,10 +14,10 @@ pub fn hsc_mend(image: &mut [u8], first: u64, patch: &[u8], span: &mut [u32; 3])
     ensures span { span.new ≡ mend_span image.old first patch.now span.old }
 {
     match mend(image, first, patch) {
-        Mending::Refused(r) => status_of(Verdict::Refused(r)),
-        Mending::Mended(s) => {
-            write_span(span, s.first as u32, s.stop as u32, s.ran as u32);
+        Ok(done) => {
+            *span = [done.first as u32, done.stop as u32, done.ran as u32];
             0
         }
+        Err(refusal) => status_of(Err(refusal)),
     }
 }

@@ -5,7 +5,7 @@ ghost use Rattle.snapshot.specs.Widths.{event_size};
 ghost use Rattle.image.specs.Editions.{max_size};
 ghost use Rattle.image.specs.Header.{header_size, header_verdict};
 ghost use Rattle.reader.specs.Layout.{reader_size, taken_in, header_in};
-ghost use Rattle.reader.specs.WellFormed.{fault, rest_blank, waiting, opened_formed, formed};
+ghost use Rattle.reader.specs.WellFormed.{FaultTold, rest_blank, waiting, opened_formed, formed};
 
 use crate::layout::{
     HEADER, NUMBER, PENDING, PLACE, STATE, TAKEN, edition_in, events_end, header_verdict,
@@ -13,18 +13,34 @@ use crate::layout::{
 };
 use image::edition::MAX_SIZE;
 use image::{edition, header};
-use refusal::Verdict;
+use refusal::Refusal;
 use snapshot::EVENT_SIZE;
 
-// Whether a trace may be refused by this number at this place.
+/// The refusal that a trace may have by this number at this place; `None` where it has none such.
 #[tactic(auto, unfolding(crate::specs::WellFormed::fault))]
-fn is_fault(refused: usize, place: usize) -> bool
-    ensures { result ≡ fault refused place }
+pub fn trace_refusal(number: u64, place: usize) -> Option<Refusal>
+    ensures { FaultTold number place result }
 {
-    if refused == 5 {
-        place < header::MAX_EVENTS
+    if number == Refusal::Event(place).number() {
+        return if place < header::MAX_EVENTS {
+            Some(Refusal::Event(place))
+        } else {
+            None
+        };
+    }
+    if place != 0 {
+        return None;
+    }
+    if number == Refusal::Short.number() {
+        Some(Refusal::Short)
+    } else if number == Refusal::Limits.number() {
+        Some(Refusal::Limits)
+    } else if number == Refusal::Offsets.number() {
+        Some(Refusal::Offsets)
+    } else if number == Refusal::Length.number() {
+        Some(Refusal::Length)
     } else {
-        (0 < refused) & (refused < 5) & (place == 0)
+        None
     }
 }
 
@@ -71,10 +87,9 @@ fn opened_formed(reader: &[u8], taken: usize) -> bool
     requires { (length reader.now ≡ reader_size) × (header_size ≤ taken) }
     ensures { result ≡ opened_formed (header_in reader.now) reader.now taken }
 {
-    let v = header_verdict(reader);
-    match v {
-        Verdict::Refused(_) => false,
-        Verdict::Accepted => accepted_formed(reader, taken),
+    match header_verdict(reader) {
+        Ok(()) => accepted_formed(reader, taken),
+        Err(_) => false,
     }
 }
 
@@ -92,6 +107,7 @@ fn trace_formed(reader: &[u8]) -> bool
     }
 }
 
+/// Whether a call may have left these bytes in a reader; others are refused by 9.
 #[tactic(auto, unfolding(crate::specs::WellFormed::formed))]
 pub fn is_formed(reader: &[u8]) -> bool
     requires { length reader.now ≡ reader_size }
@@ -102,6 +118,8 @@ pub fn is_formed(reader: &[u8]) -> bool
     if refused == 0 {
         (place == 0) & trace_formed(reader)
     } else {
-        is_fault(refused, place) & (number(reader, TAKEN) == 0) & rest_blank(reader, 0, 0, 0)
+        trace_refusal(refused as u64, place).is_some()
+            & (number(reader, TAKEN) == 0)
+            & rest_blank(reader, 0, 0, 0)
     }
 }

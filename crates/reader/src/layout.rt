@@ -2,7 +2,7 @@
 ghost use Rattle.std.specs.Prelude.{◌≡◌, [], ◌+◌, ◌^◌, ◌≤◌, ◌<◌, length};
 ghost use Rattle.word.specs.Part.{put};
 ghost use Rattle.word.specs.LittleEndian.{to_bytes, number_at};
-ghost use Rattle.refusal.specs.Refusals.{verdict_of, given};
+ghost use Rattle.refusal.specs.Refusals.{answer_of, number_of, place_of, given};
 ghost use Rattle.image.specs.Header.{header_size, edition_of, header_verdict};
 ghost use Rattle.reader.specs.Formats.{zeros, events_end, image_end};
 ghost use Rattle.reader.specs.Layout.{reader_size, header_in, laid};
@@ -10,8 +10,8 @@ ghost use Rattle.reader.specs.WellFormed.{blank};
 
 use image::edition::{Edition, edition_at};
 use image::{edition, header};
-use refusal::Verdict;
-use word::bytes;
+use refusal::Refusal;
+use word::bytes::LittleEndian;
 use word::parts::{copy_over, same};
 
 pub const TAKEN: usize = 0;
@@ -33,14 +33,14 @@ pub fn number(reader: &[u8], at: usize) -> usize
     requires { at + 4 ≤ length reader.now }
     ensures { (result ≡ number_at reader.now at 4) × (result < 2 ^ 32) }
 {
-    bytes::read_u32(reader, at) as usize
+    u32::read(reader, at) as usize
 }
 
 pub fn write_number(reader: &mut [u8], at: usize, v: usize)
     requires { (at + 4 ≤ length reader.old) × (v < 2 ^ 32) }
     ensures { reader.new ≡ put reader.old at (to_bytes 4 v) }
 {
-    bytes::write_u32(reader, at, v as u32);
+    (v as u32).write(reader, at);
 }
 
 // The header's number from its byte at on.
@@ -59,11 +59,11 @@ pub fn edition_in(reader: &[u8]) -> Edition
     edition_at(header_number(reader, header::SIXTH))
 }
 
-// Refusals 2 and 3 of the header.
+/// Refusals 2 and 3 of the header.
 #[tactic(auto, unfolding(word::specs::Part::part))]
-pub fn header_verdict(reader: &[u8]) -> Verdict
+pub fn header_verdict(reader: &[u8]) -> Result<(), Refusal>
     requires { length reader.now ≡ reader_size }
-    ensures { verdict_of result ≡ header_verdict (header_in reader.now) }
+    ensures { answer_of result ≡ header_verdict (header_in reader.now) }
 {
     header::verdict(&reader[HEADER..PENDING])
 }
@@ -87,14 +87,14 @@ pub fn clear(reader: &mut [u8], at: usize, n: usize)
     copy_over(reader, at, &none[0..n]);
 }
 
-// A refusal over all else.
-pub fn remember(reader: &mut [u8], refused: usize, place: usize)
-    requires { (length reader.old ≡ reader_size) × (refused < 2 ^ 32) × (place < 2 ^ 32) }
-    ensures { reader.new ≡ laid 0 [] [] refused place [] }
+/// A refusal over all else: its number and its place.
+pub fn remember(reader: &mut [u8], refusal: Refusal)
+    requires { (length reader.old ≡ reader_size) × (place_of refusal < 2 ^ 32) }
+    ensures { reader.new ≡ laid 0 [] [] (number_of refusal) (place_of refusal) [] }
 {
     clear(reader, 0, SIZE);
-    write_number(reader, NUMBER, refused);
-    write_number(reader, PLACE, place);
+    write_number(reader, NUMBER, refusal.number() as usize);
+    write_number(reader, PLACE, refusal.place() as usize);
 }
 
 // Where the events end, and where the image does.

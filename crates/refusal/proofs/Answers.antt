@@ -5,13 +5,12 @@ use mathlib.Core.Bool.{Bool, true, false, cond, not, ◌||◌, false≢true}
 use mathlib.Core.List.{List}
 use Prim.Native.Nat.{ℕ, ◌-◌, ◌^◌, ◌≤◌}
 use native.Mathlib.Omega.{arith}
+use Rattle.std.specs.Prelude.{Result, Ok, Err}
 use Rattle.refusal.specs.declared.Trace.{Trace}
 use Rattle.refusal.specs.declared.Trace.TheVariants.{First, Second}
 use Rattle.refusal.specs.declared.Refusal.{Refusal}
 use Rattle.refusal.specs.declared.Refusal.TheVariants.{Short, Limits, Offsets, Length, Event, Snapshot, Patch, PatchEvent, Size, TraceEvent, Row}
-use Rattle.refusal.specs.declared.Verdict.{Verdict}
-use Rattle.refusal.specs.declared.Verdict.TheVariants.{Refused, Accepted}
-use Rattle.refusal.specs.Refusals.{Answer, refused_in, refused, given, trace_number, number_of, trace_of, refusal, verdict_of, status_of, Placed}
+use Rattle.refusal.specs.Refusals.{Answer, refused_in, refused, given, trace_number, number_of, trace_of, refusal, answer_of, status_of, Placed}
 use Rattle.refusal.specs.Refusals.{told, in_trace, ◌and_then◌, changed_if}
 
 -- ---- tests in a row
@@ -57,15 +56,15 @@ pub told-passed : {A : Type 0} {x : A} (a : Answer A) → told a ≡ given x →
 told-passed (refused_in n t p) e = absurd (refused-given e)
 told-passed (given y) e = e
 
--- ---- a verdict that the code gave
+-- ---- a result that the code gave
 
-module _ (v : Verdict) (a : Answer Unit) (answered : verdict_of v ≡ a) where
-  module _ (r : Refusal) (e : v ≡ Refused r) where
+module _ (v : Result Unit Refusal) (a : Answer Unit) (answered : answer_of v ≡ a) where
+  module _ (r : Refusal) (e : v ≡ Err r) where
     pub refused-answer : a ≡ refusal r
-    refused-answer = sym answered ∙ ap verdict_of e
+    refused-answer = sym answered ∙ ap answer_of e
 
-    pub refused-first : (x : Answer Unit) → verdict_of v ≡ (a and_then x)
-    refused-first x = ap verdict_of e ∙ sym (ap (λ (t : Answer Unit). t and_then x) refused-answer)
+    pub refused-first : (x : Answer Unit) → answer_of v ≡ (a and_then x)
+    refused-first x = ap answer_of e ∙ sym (ap (λ (t : Answer Unit). t and_then x) refused-answer)
 
     pub refused-then : {A : Type 0} (x : Answer A) → refusal r ≡ (a and_then x)
     refused-then x = sym (ap (λ (t : Answer Unit). t and_then x) refused-answer)
@@ -73,9 +72,9 @@ module _ (v : Verdict) (a : Answer Unit) (answered : verdict_of v ≡ a) where
     pub refused-kept : {A : Type 0} (old new : List A) → old ≡ changed_if a old new
     refused-kept {A} old new = sym (ap (λ (t : Answer Unit). changed_if t old new) refused-answer)
 
-  module _ (e : v ≡ Accepted) where
+  module _ (e : v ≡ Ok tt) where
     pub accepted-answer : a ≡ given tt
-    accepted-answer = sym answered ∙ ap verdict_of e
+    accepted-answer = sym answered ∙ ap answer_of e
 
     pub accepted-then : {A : Type 0} {x y : Answer A} → y ≡ x → y ≡ (a and_then x)
     accepted-then {A} {x} h = h ∙ sym (ap (λ (t : Answer Unit). t and_then x) accepted-answer)
@@ -116,9 +115,9 @@ trace-range (TraceEvent t i) = trace-few t
 trace-range Row = omega arith
 
 -- status 0 is given where nothing is refused, and only there
-pub status-done : (v : Verdict) → status_of (verdict_of v) ≡ 0 → verdict_of v ≡ given tt
-status-done (Refused r) e = absurd (omega (arith, (number-range r).0))
-status-done Accepted e = refl
+pub status-done : (v : Result Unit Refusal) → status_of (answer_of v) ≡ 0 → answer_of v ≡ given tt
+status-done (Err r) e = absurd (omega (arith, (number-range r).0))
+status-done (Ok x) e = refl
 
 pub status-kept : {A : Type 0} (a : Answer Unit) (old new : List A) → (status_of a ≡ 0 → ⊥) → old ≡ changed_if a old new
 status-kept (refused_in n t p) old new h = refl

@@ -7,3 +7,4 @@ pub mod Replay
 pub mod Mend
 pub mod EventsRun
 pub mod Claim
+pub mod Traces

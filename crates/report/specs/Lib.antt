@@ -1,4 +1,3 @@
 -- The office program's lines.
 pub mod Line
-pub mod Appended
 pub mod Office

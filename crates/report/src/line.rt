@@ -1,39 +1,42 @@
-// The office program's two lines, at the front of a lent buffer of 160 bytes.
-ghost use Rattle.std.specs.Prelude.{◌≡◌, ◌≤◌, length, take};
+// The office program's two lines.
+ghost use Rattle.std.specs.Prelude.{◌≡◌};
 ghost use Rattle.report.specs.Line.{replay_line, refusal_line};
 
-use super::text;
+use crate::text::Text;
 
-// The line of a replay; answers its length.
-pub fn replay_line(
-    s: &mut [u8],
-    events: u64,
-    snapshots: u64,
-    acc: i32,
-    out: u16,
-    er: u16,
-    flags: u32,
-) -> usize
-    requires { 160 ≤ length s.old }
-    ensures line { take result s.new ≡ replay_line events snapshots acc out er flags }
-    ensures within { result ≤ length s.new }
+// No `Display`: what it ensures holds where the write is `Ok`, and `office::answer` promises the
+// line of every image.
+
+/// The line of a replay.
+pub fn replay_line(events: u64, snapshots: u64, acc: i32, out: u16, er: u16, flags: u32) -> Text
+    ensures { result ≡ replay_line events snapshots acc out er flags }
 {
-    let a = text::append_decimal(s, 0, b"events ", events);
-    let b = text::append_decimal(s, a, b" snapshots ", snapshots);
-    let c = text::append_signed(s, b, b" acc ", acc);
-    let d = text::append_hex(s, c, b" out ", 4, out as u64);
-    let e = text::append_decimal(s, d, b" er ", er as u64);
-    let f = text::append_hex(s, e, b" flags ", 8, flags as u64);
-    text::append(s, f, b"\n")
+    let mut line = Text::new();
+    line.push(b"events ");
+    line.push_decimal(events);
+    line.push(b" snapshots ");
+    line.push_decimal(snapshots);
+    line.push(b" acc ");
+    line.push_signed(acc);
+    line.push(b" out ");
+    line.push_hexadecimal(4, u64::from(out));
+    line.push(b" er ");
+    line.push_decimal(u64::from(er));
+    line.push(b" flags ");
+    line.push_hexadecimal(8, u64::from(flags));
+    line.push(b"\n");
+    line
 }
 
-// The line of a refusal; answers its length.
-pub fn refusal_line(s: &mut [u8], number: u64, place: u64) -> usize
-    requires { 160 ≤ length s.old }
-    ensures line { take result s.new ≡ refusal_line number place }
-    ensures within { result ≤ length s.new }
+/// The line of a refusal.
+pub fn refusal_line(number: u64, place: u64) -> Text
+    ensures { result ≡ refusal_line number place }
 {
-    let a = text::append_decimal(s, 0, b"refused ", number);
-    let b = text::append_decimal(s, a, b" at ", place);
-    text::append(s, b, b"\n")
+    let mut line = Text::new();
+    line.push(b"refused ");
+    line.push_decimal(number);
+    line.push(b" at ");
+    line.push_decimal(place);
+    line.push(b"\n");
+    line
 }

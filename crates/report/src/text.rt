@@ -1,58 +1,94 @@
-// Text in a lent buffer, appended piece by piece. A place is how much text stands at the buffer's front.
-ghost use Rattle.std.specs.Prelude.{◌++◌, ◌+◌, ◌≤◌, ◌<◌, ◌^◌, length};
-ghost use Rattle.report.specs.Appended.{Appended};
+// The text of a line, piece by piece.
+ghost use Rattle.std.specs.Prelude.{◌≡◌, [], ◌++◌, ◌+◌, ◌≤◌, ◌<◌, ◌^◌, List, ℕ, length, take};
 ghost use Rattle.report.specs.Line.{decimal, signed_decimal, hexadecimal};
 
-use word::{parts, sign};
+use std::marker::Model;
 
-// Appends a piece, and answers the next place.
-pub fn append(s: &mut [u8], at: usize, piece: &[u8]) -> usize
-    requires { at + length piece.now ≤ length s.old }
-    ensures { Appended s.old at piece.now s.new result }
-{
-    parts::copy_over(s, at, piece);
-    at + piece.len()
+/// How many bytes a line has room for.
+pub const ROOM: usize = 160;
+
+/// A line's text so far.
+#[derive(Drop)]
+pub struct Text {
+    bytes: [u8; ROOM],
+    length: usize,
 }
 
-// Appends a word and then a text.
-fn append_both(s: &mut [u8], at: usize, word: &[u8], text: &[u8]) -> usize
-    requires { at + length (word.now ++ text.now) ≤ length s.old }
-    ensures { Appended s.old at (word.now ++ text.now) s.new result }
-{
-    let next = append(s, at, word);
-    append(s, next, text)
+impl Model for Text {
+    ghost Value = { List ℕ };
+
+    ghost view = { λ t. take t.length t.bytes };
+
+    ghost invariant = { λ t. t.length ≤ 160 };
 }
 
-// Appends a word and a number in decimal.
-pub fn append_decimal(s: &mut [u8], at: usize, word: &[u8], n: u64) -> usize
-    requires { at + length (word.now ++ decimal n) ≤ length s.old }
-    ensures { Appended s.old at (word.now ++ decimal n) s.new result }
-{
-    let mut digits = [0u8; 20];
-    let k = io::decimal(n, &mut digits);
-    append_both(s, at, word, &digits[..k])
-}
-
-// Appends a word and a signed number in decimal.
-pub fn append_signed(s: &mut [u8], at: usize, word: &[u8], v: i32) -> usize
-    requires { at + length (word.now ++ signed_decimal v) ≤ length s.old }
-    ensures { Appended s.old at (word.now ++ signed_decimal v) s.new result }
-{
-    if v < 0 {
-        let next = append(s, at, word);
-        append_decimal(s, next, b"-", (sign::u32_of(!v) as u64) + 1)
-    } else {
-        append_decimal(s, at, word, sign::u32_of(v) as u64)
+impl Text {
+    /// No text yet.
+    pub fn new() -> Self
+        ensures { result ≡ [] }
+    {
+        Text {
+            bytes: [0; ROOM],
+            length: 0,
+        }
     }
-}
 
-// Appends a word and a number in hex, in `width` digits that hold it.
-pub fn append_hex(s: &mut [u8], at: usize, word: &[u8], width: usize, n: u64) -> usize
-    requires digits { (1 ≤ width) × (width ≤ 16) × (n < 16 ^ width) }
-    requires room { at + length (word.now ++ hexadecimal width n) ≤ length s.old }
-    ensures { Appended s.old at (word.now ++ hexadecimal width n) s.new result }
-{
-    let mut digits = [0u8; 16];
-    let k = io::hex(n, width, &mut digits);
-    append_both(s, at, word, &digits[..k])
+    /// Appends a piece.
+    pub fn push(&mut self, piece: &[u8])
+        requires { length self.old + length piece.now ≤ 160 }
+        ensures text { self.new ≡ self.old ++ piece.now }
+        ensures grown { length self.new ≡ length self.old + length piece.now }
+    {
+        let end = self.length + piece.len();
+        self.bytes[self.length..end].copy_from_slice(piece);
+        self.length = end;
+    }
+
+    /// Appends a number in decimal.
+    pub fn push_decimal(&mut self, n: u64)
+        requires { length self.old + 20 ≤ 160 }
+        ensures text { self.new ≡ self.old ++ decimal n }
+        ensures grown { length self.new ≤ length self.old + 20 }
+    {
+        let mut digits = [0u8; 20];
+        let k = io::decimal(n, &mut digits);
+        self.push(&digits[..k]);
+    }
+
+    /// Appends a signed number in decimal.
+    pub fn push_signed(&mut self, v: i32)
+        requires { length self.old + 21 ≤ 160 }
+        ensures text { self.new ≡ self.old ++ signed_decimal v }
+        ensures grown { length self.new ≤ length self.old + 21 }
+    {
+        let size = u64::from(v.unsigned_abs());
+        if v < 0 {
+            self.push(b"-");
+            self.push_decimal(size);
+        } else {
+            self.push_decimal(size);
+        }
+    }
+
+    /// Appends a number in lower-case hex, in `width` digits that hold it.
+    pub fn push_hexadecimal(&mut self, width: usize, n: u64)
+        requires digits { (1 ≤ width) × (width ≤ 16) × (n < 16 ^ width) }
+        requires room { length self.old + width ≤ 160 }
+        ensures text { self.new ≡ self.old ++ hexadecimal width n }
+        ensures grown { length self.new ≡ length self.old + width }
+    {
+        let mut digits = [0u8; 16];
+        let k = io::hex(n, width, &mut digits);
+        self.push(&digits[..k]);
+    }
+
+    /// Writes the text at the front of a buffer that has room for it; answers its length.
+    pub fn copy_to(&self, buffer: &mut [u8]) -> usize
+        requires { 160 ≤ length buffer.old }
+        ensures text { take result buffer.new ≡ self.now }
+        ensures within { result ≤ length buffer.new }
+    {
+        buffer[..self.length].copy_from_slice(&self.bytes[..self.length]);
+        self.length
+    }
 }

@@ -6,7 +6,7 @@ use Prim.Native.Nat.{ℕ, ◌+◌, ◌^◌, ◌≤◌, ◌<◌}
 use native.Mathlib.Omega.{arith}
 use lib.Dec.{lit≤}
 use lib.IntN.{ℤ}
-use lib.ListN.{length, get_or, set, length-set}
+use lib.ListN.{length, set, length-set}
 use lib.Seq.{get_or-set_same}
 use mir.Syntax.{w32}
 use mir.Val.{SFits}
@@ -16,7 +16,7 @@ use Rattle.word.specs.TwosComplement.{signed, unsigned}
 use Rattle.word.specs.Layouts.{total, pack, unpack, Held, none, more, pick, replace}
 use Rattle.word.proofs.Part.{length-part, bytes-part, part-whole, part-put-before, put-part, put-whole}
 use Rattle.word.proofs.Put.{set-put}
-use Rattle.word.proofs.LittleEndian.{number_at-one, set-byte}
+use Rattle.word.proofs.LittleEndian.{number_at-one}
 use Rattle.word.proofs.TwosComplement.{signed-unsigned, fits-unsigned}
 use Rattle.word.proofs.Layouts.{length-pack, unpack-pack, pack-unpack, held-unpack, numbers_at, unpack-from}
 use Rattle.word.proofs.Writes.{then, end, wrote}
@@ -123,21 +123,19 @@ split-levels b m l nine =
     ∙ ap (with_levels l) (sym (split-parts b m))
 
 -- written side by side
-pub moving-written : (m : List ℕ) {t u w : List ℕ} {n a g f l : ℕ} → length m ≡ moving_size → n ≡ a → t ≡ put m 0 (to_bytes 4 n)
-    → g ≡ f → u ≡ put t moving_flags_at (to_bytes 4 g) → length u ≡ moving_size → l < 256 → w ≡ set u moving_levels_at l
+pub moving-written : (m : List ℕ) {t u w : List ℕ} {n a g f k l : ℕ} → length m ≡ moving_size → n ≡ a → t ≡ put m 0 (to_bytes 4 n)
+    → g ≡ f → u ≡ put t moving_flags_at (to_bytes 4 g) → k ≡ l → w ≡ put u moving_levels_at (to_bytes 1 k)
     → w ≡ pack moving_layout (a ∷ f ∷ l ∷ [])
 unfolding total
-moving-written m {u = u} {w = w} {a = a} {f = f} {l = l} nine acc one flags two long small three =
-    let last : w ≡ put u moving_levels_at (to_bytes 1 l) = three ∙ set-byte u moving_levels_at l (omega (arith, long)) small in
-    wrote m acc one (then flags two (then refl last end)) (omega (arith, nine))
+moving-written m {a = a} {f = f} {l = l} nine acc one flags two levels three =
+    wrote m acc one (then flags two (then levels three end)) (omega (arith, nine))
     ∙ put-whole m (pack moving_layout (a ∷ f ∷ l ∷ [])) (nine ∙ sym (length-pack moving_layout (a ∷ f ∷ l ∷ []) refl))
 
 -- a snapshot's own numbers, written beside it
 pub own-written : (b : List ℕ) {m : List ℕ} → Bytes b → length b ≡ snapshot_size
-    → m ≡ pack moving_layout (number_at b acc_at 4 ∷ number_at b flags_at 4 ∷ get_or b levels_at 0 ∷ []) → split_state b m ≡ decode b
+    → m ≡ pack moving_layout (number_at b acc_at 4 ∷ number_at b flags_at 4 ∷ number_at b levels_at 1 ∷ []) → split_state b m ≡ decode b
 own-written b bytes long e =
     ap (split_state b)
     (e
-    ∙ ap (λ (l : ℕ). pack moving_layout (number_at b acc_at 4 ∷ number_at b flags_at 4 ∷ l ∷ [])) (sym (number_at-one b levels_at (omega (arith, long))))
     ∙ ap (λ (r : List ℕ). pack moving_layout (pick moving_indices r)) (sym (unpack-from snapshot_layout b 0 0)))
     ∙ split-own b bytes long

@@ -1,80 +1,84 @@
 -- Document 01, "Snapshot, 68 bytes" and "Events, 12 bytes": the byte at which each number begins, counted from the first byte of what
--- holds it; and the index of a number in a snapshot's row.
+-- holds it; and the index of a number in a snapshot's row. The bytes are the code's own constants; `Offsets` proves that they are those of the
+-- layouts.
 use Rattle.std.specs.Prelude.{ℕ}
+use Rattle.snapshot.specs.declared.places.TheConstants.{MODE, HIP, LOP, OVF, UNF, OMB, HPO, LPO}
+use Rattle.snapshot.specs.declared.places.TheConstants.{ACTIVE, ACC, OUTPUTS, ER, FLAGS, LEVELS, RUNNING, FIRST, SECOND}
+use Rattle.snapshot.specs.declared.places.TheConstants.{SUB, ZERO, VALUE, MOVING_FLAGS, MOVING_LEVELS}
 
 -- ---- in 26 bytes of settings; PFN is the first
 
 abbrev pub mode_at : ℕ
-mode_at = 2
+mode_at = MODE
 
 abbrev pub hip_at : ℕ
-hip_at = 4
+hip_at = HIP
 
 abbrev pub lop_at : ℕ
-lop_at = 8
+lop_at = LOP
 
 abbrev pub ovf_at : ℕ
-ovf_at = 12
+ovf_at = OVF
 
 abbrev pub unf_at : ℕ
-unf_at = 16
+unf_at = UNF
 
 abbrev pub omb_at : ℕ
-omb_at = 20
+omb_at = OMB
 
 abbrev pub hpo_at : ℕ
-hpo_at = 22
+hpo_at = HPO
 
 abbrev pub lpo_at : ℕ
-lpo_at = 24
+lpo_at = LPO
 
 -- ---- in a snapshot; the staged settings are the first
 
 abbrev pub active_at : ℕ
-active_at = 26
+active_at = ACTIVE
 
 abbrev pub acc_at : ℕ
-acc_at = 52
+acc_at = ACC
 
 abbrev pub out_at : ℕ
-out_at = 56
+out_at = OUTPUTS
 
 abbrev pub er_at : ℕ
-er_at = 58
+er_at = ER
 
 abbrev pub flags_at : ℕ
-flags_at = 60
+flags_at = FLAGS
 
 abbrev pub levels_at : ℕ
-levels_at = 64
+levels_at = LEVELS
 
 abbrev pub running_at : ℕ
-running_at = 65
+running_at = RUNNING
 
 abbrev pub first_at : ℕ
-first_at = 66
+first_at = FIRST
 
 abbrev pub second_at : ℕ
-second_at = 67
+second_at = SECOND
 
 -- ---- beside a snapshot while events are taken; ACC is the first
 
 abbrev pub moving_flags_at : ℕ
-moving_flags_at = 4
+moving_flags_at = MOVING_FLAGS
 
 abbrev pub moving_levels_at : ℕ
-moving_levels_at = 8
+moving_levels_at = MOVING_LEVELS
 
 -- ---- in an event; the kind is the first, and the stamp is never read
 
 abbrev pub sub_at : ℕ
-sub_at = 1
+sub_at = SUB
 
 abbrev pub zero_at : ℕ
-zero_at = 2
+zero_at = ZERO
 
 abbrev pub value_at : ℕ
-value_at = 4
+value_at = VALUE
 
 -- ---- in a snapshot's row of numbers; nine staged settings are the first
 

@@ -1,16 +1,17 @@
 -- Document 01, "Snapshot, 68 bytes" and "Events, 12 bytes": the numbers in their order, by their widths in bytes.
 use Rattle.std.specs.Prelude.{List, [], ◌∷◌, ◌++◌, ℕ, ◌+◌, ◌-◌}
 use Rattle.word.specs.Layouts.{pick}
+use Rattle.snapshot.specs.declared.TheConstants.{SNAPSHOT_SIZE, EVENT_SIZE, MOVING_SIZE}
 use Rattle.snapshot.specs.Places.{acc_index, flags_index, levels_index}
 
 abbrev pub snapshot_size : ℕ
-snapshot_size = 68
+snapshot_size = SNAPSHOT_SIZE
 
 abbrev pub settings_size : ℕ
 settings_size = 26
 
 abbrev pub event_size : ℕ
-event_size = 12
+event_size = EVENT_SIZE
 
 -- PFN, MOD, HIP, LOP, OVF, UNF, OMB, HPO, LPO
 abbrev pub settings_layout : List ℕ
@@ -33,7 +34,7 @@ abbrev pub moving_layout : List ℕ
 moving_layout = pick moving_indices snapshot_layout
 
 abbrev pub moving_size : ℕ
-moving_size = 9
+moving_size = MOVING_SIZE
 
 -- kind, sub, zero, value, stamp
 abbrev pub event_layout : List ℕ

@@ -1,9 +1,6 @@
-// A state in the 68 bytes of its snapshot.
-ghost use Rattle.std.specs.Prelude.{◌≡◌, [], ◌∷◌, ◌+◌, ◌≤◌, length};
-ghost use Rattle.std.specs.Int.{w32};
+//! A state in the 68 bytes of its snapshot.
+ghost use Rattle.std.specs.Prelude.{◌≡◌, ◌+◌, ◌≤◌, length};
 ghost use Rattle.word.specs.Part.{part, put};
-ghost use Rattle.word.specs.TwosComplement.{unsigned};
-ghost use Rattle.word.specs.Layouts.{pack};
 ghost use Rattle.snapshot.specs.Widths.{snapshot_size};
 ghost use Rattle.snapshot.specs.Snapshots.{desk_at, encode, decode};
 
@@ -11,76 +8,52 @@ use crate::places;
 use crate::settings::{read_settings, write_settings};
 use counter::desk::{Desk, queued_of};
 use counter::state::Counter;
-use word::bytes;
+use word::bytes::LittleEndian;
 
-// The desk in the snapshot from byte at.
+// The desk in the snapshot from byte `at` on.
 fn read_desk(s: &[u8], at: usize) -> Desk
     requires { at + snapshot_size ≤ length s.now }
     ensures { result ≡ desk_at s.now at }
 {
-    let running = s[at + places::RUNNING];
-    let first = s[at + places::FIRST];
-    let second = s[at + places::SECOND];
+    let first = u8::read(s, at + places::FIRST);
+    let second = u8::read(s, at + places::SECOND);
     Desk {
-        running,
+        running: u8::read(s, at + places::RUNNING),
         waiting: [first, second],
         queued: queued_of(first, second),
     }
 }
 
-// The state in the snapshot from byte at.
+/// The state in the snapshot from byte `at` on.
 pub fn decode(s: &[u8], at: usize) -> Counter
     requires { at + snapshot_size ≤ length s.now }
     ensures { result ≡ decode (part s.now at snapshot_size) }
 {
-    let levels = s[at + places::LEVELS];
-    let desk = read_desk(s, at);
     Counter {
         staged: read_settings(s, at),
         active: read_settings(s, at + places::ACTIVE),
-        acc: bytes::read_i32(s, at + places::ACC),
-        out: bytes::read_u16(s, at + places::OUTPUTS),
-        er: bytes::read_u16(s, at + places::ER),
-        flags: bytes::read_u32(s, at + places::FLAGS),
-        levels,
-        desk,
+        acc: i32::read(s, at + places::ACC),
+        out: u16::read(s, at + places::OUTPUTS),
+        er: u16::read(s, at + places::ER),
+        flags: u32::read(s, at + places::FLAGS),
+        levels: u8::read(s, at + places::LEVELS),
+        desk: read_desk(s, at),
     }
 }
 
-// Writes ACC, the outputs, ER and the flags.
-fn write_words(s: &mut [u8], at: usize, acc: i32, out: u16, er: u16, flags: u32)
-    requires { at + 12 ≤ length s.old }
-    ensures { s.new ≡ put s.old at (pack (4 ∷ 2 ∷ 2 ∷ 4 ∷ []) (unsigned w32 acc ∷ out ∷ er ∷ flags ∷ [])) }
-{
-    bytes::write_i32(s, at, acc);
-    bytes::write_u16(s, at + 4, out);
-    bytes::write_u16(s, at + 6, er);
-    bytes::write_u32(s, at + 8, flags);
-}
-
-// Writes the levels, the running cause and the two waiting ones.
-fn write_causes(s: &mut [u8], at: usize, levels: u8, running: u8, first: u8, second: u8)
-    requires { at + 4 ≤ length s.old }
-    ensures { s.new ≡ put s.old at (pack (1 ∷ 1 ∷ 1 ∷ 1 ∷ []) (levels ∷ running ∷ first ∷ second ∷ [])) }
-{
-    s[at] = levels;
-    s[at + 1] = running;
-    s[at + 2] = first;
-    s[at + 3] = second;
-}
-
-// Writes the state's snapshot from byte at.
+/// Writes the state's snapshot over the 68 bytes from byte `at` on.
 pub fn encode(c: Counter, s: &mut [u8], at: usize)
     requires { at + snapshot_size ≤ length s.old }
     ensures { s.new ≡ put s.old at (encode c) }
 {
-    let desk = c.desk;
-    let waiting = desk.waiting;
-    let active = at + places::ACTIVE;
-    let words = at + places::ACC;
-    let causes = at + places::LEVELS;
     write_settings(c.staged, s, at);
-    write_settings(c.active, s, active);
-    write_words(s, words, c.acc, c.out, c.er, c.flags);
-    write_causes(s, causes, c.levels, desk.running, waiting[0], waiting[1]);
+    write_settings(c.active, s, at + places::ACTIVE);
+    c.acc.write(s, at + places::ACC);
+    c.out.write(s, at + places::OUTPUTS);
+    c.er.write(s, at + places::ER);
+    c.flags.write(s, at + places::FLAGS);
+    c.levels.write(s, at + places::LEVELS);
+    c.desk.running.write(s, at + places::RUNNING);
+    c.desk.waiting[0].write(s, at + places::FIRST);
+    c.desk.waiting[1].write(s, at + places::SECOND);
 }

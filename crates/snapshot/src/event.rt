@@ -1,4 +1,4 @@
-// An event in its 12 bytes.
+//! An event in its 12 bytes.
 ghost use Rattle.std.specs.Prelude.{◌≡◌, ◌+◌, ◌≤◌, length};
 ghost use Rattle.word.specs.Part.{part};
 ghost use Rattle.snapshot.specs.Widths.{event_size};
@@ -6,9 +6,9 @@ ghost use Rattle.snapshot.specs.EventBytes.{event_of, reserved_zero, legal_event
 
 use crate::places;
 use counter::legality;
-use word::bytes;
+use word::bytes::LittleEndian;
 
-// What an event asks for; its stamp is left out.
+/// What an event asks for; its stamp is left out.
 #[derive(Clone, Copy)]
 pub struct Event {
     pub kind: u8,
@@ -16,27 +16,27 @@ pub struct Event {
     pub value: i32,
 }
 
-// The event from byte at.
+/// The event from byte at.
 pub fn read_event(s: &[u8], at: usize) -> Event
     requires { at + event_size ≤ length s.now }
     ensures { result ≡ event_of (part s.now at event_size) }
 {
     Event {
-        kind: s[at],
-        sub: s[at + places::SUB],
-        value: bytes::read_i32(s, at + places::VALUE),
+        kind: u8::read(s, at),
+        sub: u8::read(s, at + places::SUB),
+        value: i32::read(s, at + places::VALUE),
     }
 }
 
-// Whether bytes 2-3 of the event from byte at are zero.
+/// Whether bytes 2-3 of the event from byte at are zero.
 pub fn reserved_zero(s: &[u8], at: usize) -> bool
     requires { at + event_size ≤ length s.now }
     ensures { result ≡ reserved_zero (part s.now at event_size) }
 {
-    bytes::read_u16(s, at + places::ZERO) == 0
+    u16::read(s, at + places::ZERO) == 0
 }
 
-// Whether the event from byte at is legal; nearly all are samples, so those are told first.
+/// Whether the event from byte at is legal; nearly all are samples, so those are told first.
 pub fn legal_event(s: &[u8], at: usize) -> bool
     requires { at + event_size ≤ length s.now }
     ensures { result ≡ legal_event (part s.now at event_size) }

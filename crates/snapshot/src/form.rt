@@ -1,4 +1,4 @@
-// Whether a snapshot is well formed.
+//! Whether a snapshot is well formed.
 ghost use Rattle.std.specs.Prelude.{◌≡◌, ◌+◌, ◌≤◌, length};
 ghost use Rattle.word.specs.Part.{part};
 ghost use Rattle.snapshot.specs.Widths.{snapshot_size};
@@ -6,7 +6,7 @@ ghost use Rattle.snapshot.specs.FormedBytes.{formed};
 
 use crate::codec::decode;
 
-// Whether the snapshot from byte at is well formed.
+/// Whether the snapshot from byte at is well formed.
 pub fn formed(s: &[u8], at: usize) -> bool
     requires { at + snapshot_size ≤ length s.now }
     ensures { result ≡ formed (part s.now at snapshot_size) }

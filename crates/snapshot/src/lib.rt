@@ -1,4 +1,4 @@
-// Document 01's bytes: the snapshot of a state, and an event, read and written in a lent slice.
+//! Document 01's bytes: the snapshot of a state, and an event, read and written in a lent slice.
 #![tactic(auto)]
 
 pub mod codec;
@@ -8,11 +8,11 @@ pub mod places;
 pub mod settings;
 pub mod split;
 
-// The bytes of a snapshot.
+/// The bytes of a snapshot.
 pub const SNAPSHOT_SIZE: usize = 68;
 
-// The bytes of an event.
+/// The bytes of an event.
 pub const EVENT_SIZE: usize = 12;
 
-// The bytes of ACC, flags and levels beside a snapshot.
+/// The bytes of ACC, flags and levels beside a snapshot.
 pub const MOVING_SIZE: usize = 9;

@@ -1,4 +1,5 @@
-// Document 01's byte offsets: where each number begins, counted from the first byte of what holds it.
+//! Document 01's byte offsets: where each number begins, counted from the first byte of what
+//! holds it.
 
 // In 26 bytes of settings; PFN is the first.
 pub const MODE: usize = 2;

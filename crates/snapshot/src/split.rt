@@ -1,4 +1,5 @@
-// The state while events are taken: a snapshot's bytes, and beside them ACC, the flags and the levels, which nearly every event moves.
+//! The state while events are taken: a snapshot's bytes, and beside them ACC, the flags and the
+//! levels, which nearly every event moves.
 ghost use Rattle.std.specs.Prelude.{◌≡◌, [], ◌∷◌, ◌+◌, ◌≤◌, length};
 ghost use Rattle.std.specs.Int.{w32};
 ghost use Rattle.word.specs.Part.{part, put};
@@ -21,39 +22,39 @@ use accumulator::cause::Cause;
 use counter::desk::Desk;
 use counter::state::Counter;
 use counter::{legality, stepping};
-use word::bytes;
+use word::bytes::LittleEndian;
 use word::parts::{copy_over, copy_part};
 
-// The state that the two hold.
+/// The state that the two hold.
 pub fn read_state(s: &[u8], moving: &[u8]) -> Counter
     requires { (length s.now ≡ snapshot_size) × (length moving.now ≡ moving_size) }
     ensures { result ≡ split_state s.now moving.now }
 {
     let mut c = codec::decode(s, 0);
-    c.acc = bytes::read_i32(moving, 0);
-    c.flags = bytes::read_u32(moving, places::MOVING_FLAGS);
-    c.levels = moving[places::MOVING_LEVELS];
+    c.acc = i32::read(moving, 0);
+    c.flags = u32::read(moving, places::MOVING_FLAGS);
+    c.levels = u8::read(moving, places::MOVING_LEVELS);
     c
 }
 
-// ACC of the state that the two hold, which is beside the snapshot.
+/// ACC of the state that the two hold, which is beside the snapshot.
 pub fn read_acc(s: &[u8], moving: &[u8]) -> i32
     requires { (length s.now ≡ snapshot_size) × (length moving.now ≡ moving_size) }
     ensures { result ≡ (split_state s.now moving.now).acc }
 {
-    bytes::read_i32(moving, 0)
+    i32::read(moving, 0)
 }
 
 fn write_moving(moving: &mut [u8], acc: i32, flags: u32, levels: u8)
     requires { length moving.old ≡ moving_size }
     ensures { moving.new ≡ pack moving_layout (unsigned w32 acc ∷ flags ∷ levels ∷ []) }
 {
-    bytes::write_i32(moving, 0, acc);
-    bytes::write_u32(moving, places::MOVING_FLAGS, flags);
-    moving[places::MOVING_LEVELS] = levels;
+    acc.write(moving, 0);
+    flags.write(moving, places::MOVING_FLAGS);
+    levels.write(moving, places::MOVING_LEVELS);
 }
 
-// The state over both.
+/// The state over both.
 pub fn write_state(c: Counter, s: &mut [u8], moving: &mut [u8])
     requires { (length s.old ≡ snapshot_size) × (length moving.old ≡ moving_size) }
     ensures { HoldsIfGood c s.new moving.new }
@@ -62,18 +63,14 @@ pub fn write_state(c: Counter, s: &mut [u8], moving: &mut [u8])
     write_moving(moving, c.acc, c.flags, c.levels);
 }
 
-// Puts the moving numbers of a snapshot beside it.
+/// Puts the moving numbers of a snapshot beside it.
 pub fn load_moving(s: &[u8], moving: &mut [u8])
     requires { (length s.now ≡ snapshot_size) × (length moving.old ≡ moving_size) }
     ensures { split_state s.now moving.new ≡ decode s.now }
 {
-    bytes::write_u32(moving, 0, bytes::read_u32(s, places::ACC));
-    bytes::write_u32(
-        moving,
-        places::MOVING_FLAGS,
-        bytes::read_u32(s, places::FLAGS),
-    );
-    moving[places::MOVING_LEVELS] = s[places::LEVELS];
+    u32::read(s, places::ACC).write(moving, 0);
+    u32::read(s, places::FLAGS).write(moving, places::MOVING_FLAGS);
+    u8::read(s, places::LEVELS).write(moving, places::MOVING_LEVELS);
 }
 
 fn copy_snapshot(image: &[u8], at: usize, s: &mut [u8])
@@ -83,7 +80,8 @@ fn copy_snapshot(image: &[u8], at: usize, s: &mut [u8])
     copy_part(s, 0, image, at, SNAPSHOT_SIZE);
 }
 
-// The state in the snapshot from byte at of an image, over both. Its bytes are copied as they are.
+/// The state in the snapshot from byte at of an image, over both. Its bytes are copied as they
+/// are.
 pub fn load_state(image: &[u8], at: usize, s: &mut [u8], moving: &mut [u8])
     requires { (at + snapshot_size ≤ length image.now) × (length s.old ≡ snapshot_size) × (length moving.old ≡ moving_size) }
     ensures { split_state s.new moving.new ≡ decode (part image.now at snapshot_size) }
@@ -92,22 +90,18 @@ pub fn load_state(image: &[u8], at: usize, s: &mut [u8], moving: &mut [u8])
     load_moving(s, moving);
 }
 
-// The numbers beside a snapshot over those of the snapshot from byte at of an image.
+/// The numbers beside a snapshot over those of the snapshot from byte at of an image.
 pub fn write_over(image: &mut [u8], at: usize, moving: &[u8])
     requires { (at + snapshot_size ≤ length image.old) × (length moving.now ≡ moving_size) }
     ensures { image.new
         ≡ put image.old at (encode (split_state (part image.old at snapshot_size) moving.now)) }
 {
-    bytes::write_u32(image, at + places::ACC, bytes::read_u32(moving, 0));
-    bytes::write_u32(
-        image,
-        at + places::FLAGS,
-        bytes::read_u32(moving, places::MOVING_FLAGS),
-    );
-    image[at + places::LEVELS] = moving[places::MOVING_LEVELS];
+    u32::read(moving, 0).write(image, at + places::ACC);
+    u32::read(moving, places::MOVING_FLAGS).write(image, at + places::FLAGS);
+    u8::read(moving, places::MOVING_LEVELS).write(image, at + places::LEVELS);
 }
 
-// Writes the snapshot of the state that the two hold from byte at of an image.
+/// Writes the snapshot of the state that the two hold from byte at of an image.
 pub fn write_snapshot(image: &mut [u8], at: usize, s: &[u8], moving: &[u8])
     requires { (at + snapshot_size ≤ length image.old) × (length s.now ≡ snapshot_size) × (length moving.now ≡ moving_size) }
     ensures { image.new ≡ put image.old at (encode (split_state s.now moving.now)) }
@@ -168,7 +162,7 @@ fn control_over(s: &mut [u8], moving: &mut [u8], kind: u8, sub: u8, v: i32)
     write_state(c, s, moving);
 }
 
-// Takes the event from byte at.
+/// Takes the event from byte at.
 pub fn step_over(s: &mut [u8], moving: &mut [u8], events: &[u8], at: usize)
     requires { (length s.old ≡ snapshot_size) × (length moving.old ≡ moving_size) × (at + event_size ≤ length events.now) }
     ensures { HoldsIfGood (step_event (part events.now at event_size) (split_state s.old moving.old))

@@ -1,2 +1,2 @@
--- The laws of the tally.
-pub mod Laws
+-- Single bytes as parts of an image.
+pub mod Bytes

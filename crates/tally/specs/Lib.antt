@@ -1,2 +1,3 @@
 -- The tally: a system of one digit.
 pub mod Tally
+pub mod Laws

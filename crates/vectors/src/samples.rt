@@ -1,10 +1,9 @@
 // Crate `counter`: input 0 falls in modes 6 and 7 with the other three inputs and CE in both positions (document 02, request 4).
 use super::loads::settings;
-use super::printing::{decimal, text};
 use super::words::verdict;
 use counter::flag;
 use counter::state::Counter;
-use word::bytes;
+use std::io;
 
 // Inputs 1 to 3, as levels.
 const B: u8 = 2;
@@ -34,70 +33,67 @@ fn after(c: Counter, new: u8) -> Counter {
     d
 }
 
-fn print_position(rt: &impl Print, name: &[u8], on: bool) {
-    text(rt, name);
-    if on {
-        text(rt, b" on, ");
-    } else {
-        text(rt, b" off, ");
-    }
+// What a sample gave in one mode, from inputs that stay but for input 0: ACC, DIR, and whether both
+// are as expected there and from inputs that all change.
+#[derive(Clone, Copy)]
+struct Fall {
+    acc: i32,
+    dir: bool,
+    ok: bool,
 }
 
-fn print_bit(rt: &impl Print, name: &[u8], one: bool) {
-    text(rt, name);
-    if one {
-        text(rt, b" 1");
-    } else {
-        text(rt, b" 0");
-    }
-}
-
-// By its two's complement; no row's is below 0.
-fn print_acc(rt: &impl Print, acc: i32) {
-    let mut s = [0; 4];
-    bytes::write_i32(&mut s, 0, acc);
-    decimal(rt, bytes::read_u32(&s, 0) as u64);
-}
-
-// The sample in one mode, from inputs that stay but for input 0 and from inputs that all change: ACC should be as expected, and DIR 1
-// exactly if there was no count down.
-fn in_mode(rt: &impl Print, mode: i16, ce: bool, new: u8, name: &[u8], expected: i32) -> bool {
+// ACC should be as expected, and DIR 1 exactly if there was no count down.
+fn in_mode(mode: i16, ce: bool, new: u8, expected: i32) -> Fall {
     let alone = after(before(mode, ce, new | 1), new);
     let all = after(before(mode, ce, new ^ 15), new);
-    text(rt, name);
-    print_acc(rt, alone.acc);
-    print_bit(rt, b" DIR", alone.has(flag::DIR));
     let acc = alone.acc == expected && all.acc == expected;
-    acc && alone.has(flag::DIR) == (expected != 4) && all.has(flag::DIR) == (expected != 4)
+    let up = expected != 4;
+    Fall {
+        acc: alone.acc,
+        dir: alone.has(flag::DIR),
+        ok: acc && alone.has(flag::DIR) == up && all.has(flag::DIR) == up,
+    }
+}
+
+fn print_position(rt: &impl Print, name: &str, on: bool) -> io::Result<()> {
+    let position = if on { "on" } else { "off" };
+    print!(rt; " {name} {position},")
+}
+
+fn print_mode(rt: &impl Print, mode: i16, fall: Fall) -> io::Result<()> {
+    print!(rt; " mode {mode} ACC {} DIR {}", fall.acc, u8::from(fall.dir))
 }
 
 // One row: the inputs after the fall, CE, and ACC in mode 6 and in mode 7.
-fn falls(rt: &impl Print, new: u8, ce: bool, six: i32, seven: i32) {
-    text(rt, b"A falls, ");
-    print_position(rt, b"B", new & B == B);
-    print_position(rt, b"Z", new & Z == Z);
-    print_position(rt, b"hold", new & HOLD == HOLD);
-    print_bit(rt, b"CE", ce);
-    let first = in_mode(rt, 6, ce, new, b": mode 6 ACC ", six);
-    let second = in_mode(rt, 7, ce, new, b", mode 7 ACC ", seven);
-    verdict(rt, first && second);
+fn falls(rt: &impl Print, new: u8, ce: bool, six: i32, seven: i32) -> io::Result<()> {
+    print!(rt; "A falls,")?;
+    print_position(rt, "B", new & B == B)?;
+    print_position(rt, "Z", new & Z == Z)?;
+    print_position(rt, "hold", new & HOLD == HOLD)?;
+    let first = in_mode(6, ce, new, six);
+    let second = in_mode(7, ce, new, seven);
+    print!(rt; " CE {}:", u8::from(ce))?;
+    print_mode(rt, 6, first)?;
+    print!(rt; ",")?;
+    print_mode(rt, 7, second)?;
+    println!(rt; " {}", verdict(first.ok && second.ok))
 }
 
-pub fn run(rt: &impl Print) {
-    falls(rt, 0, true, 4, 4);
-    falls(rt, 0, false, 5, 5);
-    falls(rt, B, true, 5, 5);
-    falls(rt, B, false, 5, 5);
-    falls(rt, Z, true, 4, 0);
-    falls(rt, Z, false, 5, 0);
-    falls(rt, B | Z, true, 5, 5);
-    falls(rt, B | Z, false, 5, 5);
-    falls(rt, HOLD, true, 4, 5);
-    falls(rt, HOLD, false, 5, 5);
-    falls(rt, B | HOLD, true, 5, 5);
-    falls(rt, B | HOLD, false, 5, 5);
-    falls(rt, Z | HOLD, true, 4, 0);
-    falls(rt, Z | HOLD, false, 5, 0);
-    falls(rt, B | Z | HOLD, true, 5, 5);
-    falls(rt, B | Z | HOLD, false, 5, 5);
+pub fn run(rt: &impl Print) -> io::Result<()> {
+    // The inputs after the fall; ACC in mode 6 and in mode 7, with CE on and with CE off.
+    let rows = [
+        (0, [4, 4], [5, 5]),
+        (B, [5, 5], [5, 5]),
+        (Z, [4, 0], [5, 0]),
+        (B | Z, [5, 5], [5, 5]),
+        (HOLD, [4, 5], [5, 5]),
+        (B | HOLD, [5, 5], [5, 5]),
+        (Z | HOLD, [4, 0], [5, 0]),
+        (B | Z | HOLD, [5, 5], [5, 5]),
+    ];
+    for (new, on, off) in rows {
+        falls(rt, new, true, on[0], on[1])?;
+        falls(rt, new, false, off[0], off[1])?;
+    }
+    Ok(())
 }

@@ -1,4 +1,4 @@
--- A function's branches against a definition by `cond`: what a test in the code says of the definition's test. `search (branches, needs)`
+-- A function's branches against a definition by `cond`: what a test in the code says of the definition's test. `search (branches, rules)`
 -- closes a return of a function that tests plain numbers in the definition's order.
 use mathlib.Core.Path.{◌≡◌, refl, sym, ap, ◌∙◌, subst}
 use mathlib.Core.Bool.{Bool, true, false, cond, false≢true}

@@ -1,12 +1,13 @@
 -- Laws of `put`: writes side by side are one write, a write inside what was written is a write to it, and a copy goes element by element.
 use mathlib.Core.Path.{◌≡◌, refl, sym, ap, ap₂, ◌∙◌}
 use mathlib.Core.List.{List, [], ◌∷◌, ◌++◌, append_assoc}
-use Prim.Native.Nat.{ℕ, ◌+◌, ◌≤◌, ◌<◌}
+use Prim.Native.Nat.{ℕ, ◌+◌, ◌-◌, ◌≤◌, ◌<◌}
 use native.Mathlib.Nat.{add-zero, add_assoc, zero-add, suc-add, le-add_right}
 use native.Mathlib.Numerals.{add-one}
 use native.Mathlib.Omega.{arith}
-use lib.ListN.{length, get_or, take, drop, set, length-append, take-append-drop}
-use lib.Seq.{length-take-le, take-append-le, drop-append-le, drop_at, take-suc, set_split}
+use lib.ListN.{length, take, drop, set, length-append, take-append-drop}
+use lib.Seq.{length-take-le, take-append-le, drop-append-le, drop_at, set_split, drop-drop}
+use borrow.Rule.Slice.PartMut.{put_mid}
 use Rattle.word.specs.Part.{put}
 use Rattle.word.proofs.Part.{length-put, take-put-end, drop-put, put-whole}
 
@@ -89,14 +90,9 @@ module _ {A : Type 0} where
   pub put-next : (l : List A) (at : ℕ) (v : A) (rest : List A) → at < length l → put (set l at v) (at + 1) rest ≡ put l at (v ∷ rest)
   put-next l at v rest h = ap (λ (m : List A). put m (at + 1) rest) (set-put l at v h) ∙ put-put l at (v ∷ []) rest (omega arith)
 
-  -- ---- a copy, one element at a time
-
-  pub put-more : (l : List A) (at : ℕ) (bs : List A) (i : ℕ) (d : A) → i < length bs → at + length bs ≤ length l
-      → set (put l at (take i bs)) (at + i) (get_or bs i d) ≡ put l at (take (i + 1) bs)
-  put-more l at bs i d h b =
-      let long : length (take i bs) ≡ i = length-take-le i bs (omega arith) in
-      let room : at + i < length (put l at (take i bs)) = rw (length-put l at (take i bs) (omega arith)) (omega arith) in
-      set-put (put l at (take i bs)) (at + i) (get_or bs i d) room
-      ∙ ap (λ (n : ℕ). put (put l at (take i bs)) (at + n) (get_or bs i d ∷ [])) (sym long)
-      ∙ put-put l at (take i bs) (get_or bs i d ∷ []) (omega arith)
-      ∙ ap (put l at) (rw (add-one i, take-suc bs i d))
+  -- what a write to the range at..end leaves
+  pub range-write : (l b c : List A) (at end : ℕ) → end ≡ at + length c → b ≡ c → put_mid at (end - at) l b ≡ put l at c
+  unfolding put
+  range-write l b c at end e same =
+      let far : at + (end - at) ≡ at + length c = omega arith in
+      rw (same, drop-drop (end - at) at l, far)

@@ -32,7 +32,8 @@ room s t at k n m h e =
     let same : length (put s at (to_bytes k n)) ≡ length s = length-put s at (to_bytes k n) (omega arith) in
     rw e (omega arith)
 
-wrote-from : {ks vs s u : List ℕ} {at i : ℕ} → Wrote ks vs s at i u → at + i + total ks ≤ length s → u ≡ put s (at + i) (pack ks vs)
+-- from i bytes past byte at
+pub wrote-from : {ks vs s u : List ℕ} {at i : ℕ} → Wrote ks vs s at i u → at + i + total ks ≤ length s → u ≡ put s (at + i) (pack ks vs)
 unfolding total pack
 wrote-from (end {s = s} {at = at} {i = i}) h = sym (put-nil s (at + i))
 wrote-from (then {k = k} {n = n} {v = v} {ks = ks} {vs = vs} {s = s} {t = t} {at = at} {i = i} same e r) h =

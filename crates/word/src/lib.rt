@@ -1,7 +1,7 @@
-// Words and bytes: masks on a word, little-endian numbers in a lent slice, two's complement, parts of a slice compared and copied.
+//! Words and bytes: masks on a word, little-endian numbers in a lent slice, parts of a slice
+//! compared and copied.
 #![tactic(auto)]
 
 pub mod bits;
 pub mod bytes;
 pub mod parts;
-pub mod sign;

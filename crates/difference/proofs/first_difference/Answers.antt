@@ -1,5 +1,5 @@
 -- `difference::first_difference` meets its contract. The invariant: the first difference is not passed. A block that is the same does not
--- reach it, one that differs has it, and so has what is left past the blocks, if only at its end. The measure is what is left.
+-- reach it, one that differs has it, and so has what is left past the blocks, if only at its end.
 use mathlib.Core.Path.{sym, ◌∙◌}
 use native.Mathlib.Omega.{arith}
 use Rattle.difference.proofs.Places.{difference-within, block-same, block-differs}
@@ -8,10 +8,12 @@ use Rattle.difference.proofs.first_difference.Goals as goal
 pub returns-then-not-same_block : goal.returns-then-not-same_block
 returns-then-not-same_block c =
     let differs = sym c.same_block.ensures ∙ c.if-not-same_block.true in
-    omega (arith, c.scan.ensures, block-differs _ _ _ c.loop-i.invariant.1 _ (omega arith) differs)
+    omega (arith, c.scan.ensures, block-differs _ _ _ c.loop-block.invariant _ (omega arith) differs)
 
-pub loop-i-preserved : goal.loop-i-preserved
-loop-i-preserved c = (omega arith, block-same _ _ _ c.loop-i.invariant.1 _ (omega arith) (sym c.same_block.ensures ∙ c.if-not-same_block.false))
+pub loop-block-preserved : goal.loop-block-preserved
+loop-block-preserved c =
+    let same = block-same _ _ _ c.loop-block.invariant _ (omega arith) (sym c.same_block.ensures ∙ c.if-not-same_block.false) in
+    omega (arith, same)
 
 pub returns : goal.returns
 returns c =

@@ -1,4 +1,4 @@
--- `difference::scan` meets its contract. The invariant: the first difference is not passed. The measure is what is left up to the end.
+-- `difference::scan` meets its contract. The invariant: the first difference is not passed.
 use native.Mathlib.Omega.{arith}
 use Rattle.difference.proofs.Places.{next-same, here-differs}
 use Rattle.difference.proofs.scan.Goals as goal

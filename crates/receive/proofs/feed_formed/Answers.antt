@@ -1,10 +1,10 @@
 -- `receive::feed_formed` meets its contract: what the turns come to, and what is told of it.
 use mathlib.Core.Path.{◌≡◌, refl, sym, ap, ◌∙◌, subst}
 use mathlib.Core.Bool.{Bool, true, false, cond}
-use mathlib.Core.List.{List, [], ◌∷◌}
+use mathlib.Core.List.{List}
 use Prim.Native.Nat.{ℕ}
 use Rattle.word.specs.Part.{Bytes, put}
-use Rattle.refusal.proofs.Answers.{refused-kept, accepted-changed}
+use Rattle.refusal.proofs.Answers.{accepted-changed}
 use Rattle.pieces.specs.Reading.{Fed, fed}
 use Rattle.pieces.specs.Traces.{verdict, shown}
 use Rattle.reader.specs.Formats.{format, ImageReader}
@@ -26,39 +26,30 @@ left-by : (out : List ℕ) (end : Fed ImageReader) (taken : ℕ) (holds : Bool) 
     → out ≡ bytes_of end.reader
 left-by out end taken holds bytes formed call = sym (reads out bytes formed).back ∙ ap (λ (o : Fed ImageReader). bytes_of o.reader) call
 
-pub returns-in-Refused : goal.returns-in-Refused
-returns-in-Refused c =
-    let call = c.take_chunk-t.ensures.call in
-    let answered = c.remembered-v.ensures ∙ ap (λ (o : Fed ImageReader). verdict format o.reader.phase) call in
-    let same = c.in-Refused.is in record {
-      answer = answered;
-      reader = left-by _ _ _ _ (λ i. (c.slice_known-4-1.given i).fits) c.take_chunk-t.ensures.formed call;
-      buffer = refused-kept _ _ answered _ same _ _;
-      taken = refused-kept _ _ answered _ same _ _;
-    }
+pub returns-in_err-remembered-clause-reader : goal.returns-in_err-remembered-clause-reader
+returns-in_err-remembered-clause-reader c =
+    left-by _ _ _ _ (λ i. (c.slice_known-4-1.given i).fits) c.take_chunk-turn.ensures.formed c.take_chunk-turn.ensures.call
 
-pub returns-in-Accepted : goal.returns-in-Accepted
-returns-in-Accepted c =
+pub returns-clause-reader : goal.returns-clause-reader
+returns-clause-reader c =
+    left-by _ _ _ _ (λ i. (c.slice_known-4-1.given i).fits) c.take_chunk-turn.ensures.formed c.take_chunk-turn.ensures.call
+
+pub returns-clause-buffer : goal.returns-clause-buffer
+returns-clause-buffer c =
     let b = c.args.reader.now in
     let chunk = c.args.chunk.now in
     let buffer = c.args.buffer.now in
     let end = fed_by b chunk in
-    let out = c.take_chunk-t.new.reader in
-    let call = c.take_chunk-t.ensures.call in
-    let bytes : Bytes out = λ i. (c.slice_known-4-1.given i).fits in
+    let out = c.take_chunk-turn.new.reader in
+    let call = c.take_chunk-turn.ensures.call in
     let same-reader : reader_in out ≡ end.reader = ap (λ (o : Fed ImageReader). o.reader) call in
     let holds = ap (λ (o : Fed ImageReader). o.holds) call in
-    let due-shows : c.take_chunk-t.result.holds ≡ true → snapshot_in (header_in out) out ≡ shown format end.reader.phase =
+    let due-shows : c.take_chunk-turn.result.holds ≡ true → snapshot_in (header_in out) out ≡ shown format end.reader.phase =
     λ t. let runs = feed-runs format (reader_in b) chunk (sym holds ∙ t) in
-    shown-in out bytes c.take_chunk-t.ensures.formed (subst (λ (r : ImageReader). Runs format r.phase) (sym same-reader) runs)
+    shown-in out (λ i. (c.slice_known-4-1.given i).fits) c.take_chunk-turn.ensures.formed
+    (subst (λ (r : ImageReader). Runs format r.phase) (sym same-reader) runs)
     ∙ ap (λ (r : ImageReader). shown format r.phase) same-reader in
-    let answered = c.remembered-v.ensures ∙ ap (λ (o : Fed ImageReader). verdict format o.reader.phase) call in
-    let same = c.in-Accepted.is in record {
-      answer = answered;
-      reader = left-by _ _ _ _ bytes c.take_chunk-t.ensures.formed call;
-      buffer = accepted-changed _ _ answered same _
-          (c.tell.ensures.buffer ∙ where-due c.take_chunk-t.result.holds buffer _ _ due-shows
-          ∙ ap (λ (x : Bool). cond x (put buffer 0 (shown format end.reader.phase)) buffer) holds);
-      taken = accepted-changed _ _ answered same _
-          (c.tell.ensures.taken ∙ ap (λ (o : Fed ImageReader). o.taken ∷ cond o.holds 1 0 ∷ []) call);
-    }
+    let answered = c.remembered.ensures ∙ ap (λ (o : Fed ImageReader). verdict format o.reader.phase) call in
+    accepted-changed _ _ answered c.in_ok-remembered.was _
+    (c.tell.ensures.buffer ∙ where-due c.take_chunk-turn.result.holds buffer _ _ due-shows
+    ∙ ap (λ (x : Bool). cond x (put buffer 0 (shown format end.reader.phase)) buffer) holds)

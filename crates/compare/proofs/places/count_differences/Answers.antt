@@ -25,7 +25,7 @@ pub returns-then-not-legal_beside : goal.returns-then-not-legal_beside
 returns-then-not-legal_beside c =
     let illegal = at-first _ _ ∙ sym c.legal_beside.ensures ∙ c.if-not-legal_beside.true in
     let here = c.loop-i-test.true in
-    check-stops _ _ _ _ (sym (scan-stop base _ 0 _ _ here illegal) ∙ c.loop-i.invariant.2) here
+    check-stops _ _ _ _ (sym (scan-stop base _ 0 _ _ here illegal) ∙ c.loop-i.invariant.1) here
 
 pub loop-i-preserved : goal.loop-i-preserved
 loop-i-preserved c =
@@ -43,18 +43,18 @@ loop-i-preserved c =
     let here = c.loop-i-test.true in
     let inv = c.loop-i.invariant in
     let passes = at-first _ _ ∙ second-legal in
-    let next = sym (scan-next base _ 0 _ _ here passes) ∙ inv.2 in
+    let next = sym (scan-next base _ 0 _ _ here passes) ∙ inv.1 in
     elim c.if-not-same_front.branch [
       | then-not-same_front w ↦
           let other = sym same-told ∙ w.if-not-same_front.true in
-          (omega (arith, w.n-is), omega arith, next, rw w.n-is (count-other _ _ _ _ _ _ inv.3 here other))
+          (omega (arith, w.n-is), next, rw w.n-is (count-other _ _ _ _ _ _ inv.2 here other))
       | else-not-same_front w ↦
           let same = sym same-told ∙ w.if-not-same_front.false in
-          (omega (arith, w.n-is), omega arith, next, rw w.n-is (count-same _ _ _ _ _ _ inv.3 here same))
+          (omega (arith, w.n-is), next, rw w.n-is (count-same _ _ _ _ _ _ inv.2 here same))
     ]
 
 pub returns : goal.returns
 returns c =
     let inv = c.loop-i.invariant in
     let past = c.loop-i-test.false in
-    check-ends _ _ _ _ (sym (scan-end base _ 0 _ _ past) ∙ inv.2) past _ (count-end _ _ _ _ _ _ inv.3 past)
+    check-ends _ _ _ _ (sym (scan-end base _ 0 _ _ past) ∙ inv.1) past _ (count-end _ _ _ _ _ _ inv.2 past)

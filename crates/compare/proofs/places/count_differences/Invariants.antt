@@ -12,9 +12,5 @@ use Rattle.compare.proofs.places.count_differences.Given as goal
 abbrev pub invariant-loop-i : goal.invariant-loop-i
 invariant-loop-i l =
     (l.n ≤ l.i)
-    × (l.i ≤ l.count)
     × (first_illegal base l.second 0 l.i (l.count - l.i) ≡ first_illegal base l.second 0 0 l.count)
     × (l.n + length (from l.first l.second l.count l.i) ≡ length (differing l.first l.second 0 l.count))
-
-abbrev pub decreases-loop-i : goal.decreases-loop-i
-decreases-loop-i l = l.count - l.i

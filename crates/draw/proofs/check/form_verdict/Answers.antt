@@ -6,16 +6,16 @@ use Rattle.image.specs.Editions.{system}
 use Rattle.draw.specs.Drawing.{form_verdict}
 use Rattle.draw.proofs.check.form_verdict.Goals as goal
 
-pub returns-then-formed : goal.returns-then-formed
+pub returns : goal.returns
 unfolding form_verdict
-returns-then-formed c =
+returns c =
     let answered : c.formed.result ≡ (system c.args.ed).formed c.args.snapshot.now =
     c.formed.ensures ∙ ap (system c.args.ed).formed (part-whole c.args.snapshot.now _ c.requires) in
-    test-passes 6 0 answered c.if-formed.true
+    test-passes 6 0 answered c.if-not-formed.false
 
-pub returns-else-formed : goal.returns-else-formed
+pub returns-then-not-formed : goal.returns-then-not-formed
 unfolding form_verdict
-returns-else-formed c =
+returns-then-not-formed c =
     let answered : c.formed.result ≡ (system c.args.ed).formed c.args.snapshot.now =
     c.formed.ensures ∙ ap (system c.args.ed).formed (part-whole c.args.snapshot.now _ c.requires) in
-    test-refuses 6 0 answered c.if-formed.false
+    test-refuses 6 0 answered c.if-not-formed.true

@@ -7,7 +7,7 @@ use Rattle.hsc.proofs.checking.hsc_event_check.Goals as goal
 
 pub returns-then-event-ne-EVENT_SIZE : goal.returns-then-event-ne-EVENT_SIZE
 unfolding check_answer
-returns-then-event-ne-EVENT_SIZE c = rw (ne_eqb _ _ c.if-event-ne-EVENT_SIZE.true)
+returns-then-event-ne-EVENT_SIZE c = rw (ne_eqb _ _ c.if-event-ne-EVENT_SIZE.true) c.number.ensures
 
 pub returns-then-legal_event : goal.returns-then-legal_event
 unfolding check_answer

@@ -4,6 +4,6 @@ use Rattle.hsc.proofs.filling.fill.Goals as goal
 
 pub returns : goal.returns
 returns c =
-    filled c.args.c _ _ _ _ _ _ _ _ _ c.copy_row-arg-1.given.0.1
+    filled c.args.c _ _ _ _ _ _ _ _ _ c.copy_over-arg-1.given.0.1
     c.settings_row-staged.ensures c.settings_row-active.ensures c.stored_row-stored.ensures c.shown_row-shown.ensures
-    c.copy_row.ensures c.copy_row-2.ensures c.copy_row-3.ensures c.copy_row-4.ensures
+    c.copy_over.ensures c.copy_over-2.ensures c.copy_over-3.ensures c.copy_over-4.ensures

@@ -1,41 +1,31 @@
--- `hsc::reading::hsc_read` meets its contract: the status is the verdict's, and only at status 0, where the length is right, are the fields filled.
-use mathlib.Core.Path.{◌≡◌, sym, ap, subst, ◌∙◌}
+-- `hsc::reading::hsc_read` meets its contract: what is not refused has the right length, and every refusal is at place 0.
+use mathlib.Core.Path.{sym, ap, subst, ◌∙◌}
 use native.Mathlib.Nat.{le_of_eq}
-use lib.ListN.{length}
+use Rattle.refusal.specs.Refusals.{Answer, Placed, changed_if}
 use Rattle.snapshot.specs.Widths.{snapshot_size}
 use Rattle.snapshot.specs.Snapshots.{decode}
-use Rattle.refusal.specs.Refusals.{Answer, given, verdict_of, status_of, Placed, changed_if}
-use Rattle.refusal.proofs.Answers.{status-done}
 use Rattle.hsc.specs.Fields.{fields_of}
-use Rattle.hsc.specs.Calls.{read_verdict}
-use Rattle.hsc.proofs.Done.{read-passed, read-placed}
+use Rattle.hsc.proofs.Done.{ok-passed, err-kept, read-passed, read-placed}
 use Rattle.hsc.proofs.Whole.{of-whole}
+use Rattle.hsc.proofs.reading.hsc_read.Goals.{then-is_ok, else-is_ok}
 use Rattle.hsc.proofs.reading.hsc_read.Goals as goal
 
-pub status_of-status-requires : goal.status_of-status-requires
-status_of-status-requires c = subst Placed (sym c.read_verdict.ensures) (read-placed _)
+pub status_of-requires : goal.status_of-requires
+status_of-requires c = subst Placed (sym c.read_verdict-verdict.ensures) (read-placed _)
 
 pub decode-requires : goal.decode-requires
 decode-requires c =
-    let answered : verdict_of c.read_verdict.result ≡ read_verdict c.args.snapshot.now =
-    c.read_verdict.ensures in
-    let accepted : c.status_of-status.result ≡ 0 → read_verdict c.args.snapshot.now ≡ given tt =
-    λ z. sym answered ∙ status-done c.read_verdict.result (sym c.status_of-status.ensures ∙ z) in
-    let sized : length c.args.snapshot.now ≡ snapshot_size =
-    read-passed _ (accepted c.if-status-eq0.true) in
-    le_of_eq (sym sized)
+    le_of_eq (sym (read-passed _ (ok-passed _ c.read_verdict-verdict.ensures (sym c.is_ok.ensures.value ∙ c.if-is_ok.true))))
 
-pub returns-then-status-eq0 : goal.returns-then-status-eq0
-returns-then-status-eq0 c =
-    let answered : verdict_of c.read_verdict.result ≡ read_verdict c.args.snapshot.now =
-    c.read_verdict.ensures in
-    let accepted : c.status_of-status.result ≡ 0 → read_verdict c.args.snapshot.now ≡ given tt =
-    λ z. sym answered ∙ status-done c.read_verdict.result (sym c.status_of-status.ensures ∙ z) in
-    let sized : length c.args.snapshot.now ≡ snapshot_size =
-    read-passed _ (accepted c.if-status-eq0.true) in
+pub returns-clause-fields : goal.returns-clause-fields
+returns-clause-fields c =
     let s = c.args.snapshot.now in
-    let f = c.args.fields.now in
-    let state = c.decode.ensures ∙ of-whole decode s snapshot_size sized in record {
-      status = c.status_of-status.ensures ∙ ap status_of answered;
-      fields = c.fill.ensures ∙ ap fields_of state ∙ sym (ap (λ (a : Answer Unit). changed_if a f (fields_of (decode s))) (accepted c.if-status-eq0.true));
-    }
+    let old = c.args.fields.now in
+    let answered = c.read_verdict-verdict.ensures in
+    elim c.if-is_ok.branch [
+      | then-is_ok w ↦
+          let passes = ok-passed _ answered (sym c.is_ok.ensures.value ∙ w.if-is_ok.true) in
+          let state = w.decode.ensures ∙ of-whole decode s snapshot_size (read-passed _ passes) in
+          w.fields-is ∙ w.fill.ensures ∙ ap fields_of state ∙ sym (ap (λ (a : Answer Unit). changed_if a old (fields_of (decode s))) passes)
+      | else-is_ok w ↦ w.fields-is ∙ err-kept _ old _ answered (sym c.is_ok.ensures.value ∙ w.if-is_ok.false)
+    ]

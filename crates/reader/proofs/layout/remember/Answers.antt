@@ -1,21 +1,29 @@
 -- `reader::layout::remember` meets its contract: zeros, and the two numbers in their places.
-use mathlib.Core.Path.{ap, ◌∙◌}
+use mathlib.Core.Path.{ap₂, ◌∙◌}
 use mathlib.Core.List.{List}
 use Prim.Native.Nat.{ℕ}
+use native.Mathlib.Omega.{arith}
 use Rattle.word.specs.Part.{put}
 use Rattle.word.specs.LittleEndian.{to_bytes}
 use Rattle.word.proofs.Part.{put-whole}
+use Rattle.refusal.specs.Refusals.{number_of, place_of}
+use Rattle.refusal.proofs.Answers.{number-range}
 use Rattle.reader.specs.Formats.{zeros}
 use Rattle.reader.specs.Layout.{reader_size}
 use Rattle.reader.proofs.Laid.{laid-refused}
 use Rattle.reader.proofs.layout.remember.Goals as goal
 
+pub write_number-requires : goal.write_number-requires
+write_number-requires c =
+    let size = c.requires.0 in
+    (omega (arith, c.clear.auto.reader, size), omega (arith, c.number.ensures, (number-range c.args.refusal).1))
+
 pub returns : goal.returns
 returns c =
-    let a = c.args in
+    let refusal = c.args.refusal in
     c.write_number-2.ensures
-    ∙ ap (λ (l : List ℕ). put l 44 (to_bytes 4 a.place))
+    ∙ ap₂ (λ (l : List ℕ) (p : ℕ). put l 44 (to_bytes 4 p))
     (c.write_number.ensures
-    ∙ ap (λ (l : List ℕ). put l 40 (to_bytes 4 a.refused))
-    (c.clear.ensures ∙ put-whole a.reader.now (zeros reader_size) c.requires.0))
-    ∙ laid-refused a.refused a.place
+    ∙ ap₂ (λ (l : List ℕ) (n : ℕ). put l 40 (to_bytes 4 n)) (c.clear.ensures ∙ put-whole c.args.reader.now (zeros reader_size) c.requires.0) c.number.ensures)
+    c.place.ensures
+    ∙ laid-refused (number_of refusal) (place_of refusal)

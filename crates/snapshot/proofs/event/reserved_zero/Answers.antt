@@ -8,4 +8,4 @@ use Rattle.snapshot.proofs.event.reserved_zero.Goals as goal
 pub returns : goal.returns
 returns c =
     let a = c.args in
-    ap (λ (n : ℕ). eqb n 0) c.read_u16.ensures ∙ sym (zero-part a.s.now a.at)
+    ap (λ (n : ℕ). eqb n 0) c.read.ensures ∙ sym (zero-part a.s.now a.at)

@@ -1,12 +1,9 @@
 -- `snapshot::split::load_moving` meets its contract: the snapshot's own numbers, side by side.
-use mathlib.Core.Path.{refl, ◌∙◌}
-use Rattle.snapshot.specs.Places.{levels_at}
 use Rattle.snapshot.proofs.Moving.{moving-written, own-written}
 use Rattle.snapshot.proofs.split.load_moving.Goals as goal
 
 pub returns : goal.returns
 returns c =
-    let bytes = c.shared_slice_known-1.given in
-    own-written c.args.s.now (λ i. (bytes i).fits) c.requires.0
-    (moving-written c.args.moving.now c.requires.1 c.read_u32.ensures c.write_u32.ensures c.read_u32-2.ensures
-    c.write_u32-2.ensures (c.write_u32-2.auto.s ∙ c.write_u32.auto.s ∙ c.requires.1) (bytes levels_at).fits refl)
+    own-written c.args.s.now (λ i. (c.shared_slice_known-1.given i).fits) c.requires.0
+    (moving-written c.args.moving.now c.requires.1 c.read.ensures c.write.ensures c.read-2.ensures c.write-2.ensures
+    c.read-3.ensures c.write-3.ensures)

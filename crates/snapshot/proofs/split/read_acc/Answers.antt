@@ -9,4 +9,4 @@ use Rattle.snapshot.proofs.split.read_acc.Goals as goal
 pub returns : goal.returns
 returns c =
     let a = c.args in
-    to_z-of_z {w = w32} (record { sfits = c.read_i32.type_inv }) ∙ c.read_i32.ensures ∙ sym (ap (λ (d : Counter). d.acc) (split-parts a.s.now a.moving.now))
+    to_z-of_z {w = w32} (record { sfits = c.read.type_inv }) ∙ c.read.ensures ∙ sym (ap (λ (d : Counter). d.acc) (split-parts a.s.now a.moving.now))

@@ -1,5 +1,5 @@
 -- `snapshot::split::write_moving` meets its contract: three numbers side by side are the nine bytes.
-use mathlib.Core.Path.{refl, ◌∙◌}
+use mathlib.Core.Path.{refl}
 use mir.Syntax.{w32}
 use Rattle.word.proofs.TwosComplement.{bits-back}
 use Rattle.snapshot.proofs.Moving.{moving-written}
@@ -7,6 +7,4 @@ use Rattle.snapshot.proofs.split.write_moving.Goals as goal
 
 pub returns : goal.returns
 returns c =
-    let a = c.args in
-    moving-written a.moving.now c.requires (bits-back w32 c.ranges.acc) c.write_i32.ensures refl c.write_u32.ensures
-    (c.write_u32.auto.s ∙ c.write_i32.auto.s ∙ c.requires) c.ranges.levels.fits refl
+    moving-written c.args.moving.now c.requires (bits-back w32 c.ranges.acc) c.write.ensures refl c.write-2.ensures refl c.write-3.ensures

@@ -1,5 +1,5 @@
 -- `word::parts::same` meets its contract. The invariant: what `all` says of the bytes passed, and the comparison of those left, are
--- together the comparison of the rows. The measure is what is left of `a`.
+-- together the comparison of the rows.
 use mathlib.Core.Path.{◌≡◌, sym, ap, ◌∙◌}
 use mathlib.Core.Bool.{Bool, ◌&&◌, and_assoc, and-true}
 use mathlib.Core.List.{List}

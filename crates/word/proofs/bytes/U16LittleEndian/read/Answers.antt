@@ -1,0 +1,7 @@
+-- The number in two bytes, as the language reads it.
+use mathlib.Core.Path.{◌∙◌}
+use Rattle.word.proofs.LittleEndian.{number_at-2}
+use Rattle.word.proofs.bytes.U16LittleEndian.read.Goals as goal
+
+pub returns : goal.returns
+returns c = c.from_le_bytes.ensures ∙ number_at-2 c.args.bytes.now c.args.at c.requires

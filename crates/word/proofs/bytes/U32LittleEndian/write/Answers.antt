@@ -1,0 +1,8 @@
+-- The bytes of a number, as the language gives them, are copied.
+use mathlib.Core.Path.{ap, ◌∙◌}
+use Rattle.word.specs.Part.{put}
+use Rattle.word.proofs.LittleEndian.{bytes-4}
+use Rattle.word.proofs.bytes.U32LittleEndian.write.Goals as goal
+
+pub returns : goal.returns
+returns c = c.copy_over.ensures ∙ ap (put c.args.bytes.now c.args.at) (c.to_le_bytes.ensures ∙ bytes-4 c.args.self)
