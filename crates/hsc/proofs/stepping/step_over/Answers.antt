@@ -4,10 +4,10 @@ use mathlib.Core.List.{List}
 use Prim.Native.Nat.{ℕ}
 use lib.ListN.{length}
 use Rattle.word.specs.Part.{part, put}
-use Rattle.word.proofs.Part.{part-whole, put-whole, length-part, bytes-part}
+use Rattle.word.proofs.Part.{part-whole, put-whole, bytes-part}
 use Rattle.counter.specs.WellFormed.{Good}
 use Rattle.snapshot.specs.Widths.{snapshot_size, event_size}
-use Rattle.snapshot.specs.Snapshots.{encode, decode}
+use Rattle.snapshot.specs.Snapshots.{encode}
 use Rattle.snapshot.specs.EventBytes.{step_event}
 use Rattle.snapshot.specs.Split.{split_state}
 use Rattle.snapshot.proofs.RoundTrip.{length-encode, good-decode}
