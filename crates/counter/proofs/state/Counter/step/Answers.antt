@@ -1,6 +1,5 @@
 -- `step` meets its contract at a sample: the levels are those of the value.
-use mathlib.Core.Path.{◌≡◌, sym, ◌∙◌}
-use mathlib.Core.Bool.{true}
+use mathlib.Core.Path.{sym, ◌∙◌}
 use Rattle.word.proofs.TwosComplement.{signed-unsigned}
 use Rattle.counter.proofs.ByKind.{step-levels}
 use Rattle.counter.proofs.state.Counter.step.Goals as goal
