@@ -9,7 +9,7 @@ use lib.IntN.{ℤ}
 use Rattle.counter.specs.Events.{takes_bit, takes_zero, legal_flag}
 use Rattle.counter.proofs.Ranges.{over}
 
-no-flag : (sub : ℕ) (v : ℤ) → 19 ≤ sub → legal_flag sub v ≡ false
+pub no-flag : (sub : ℕ) (v : ℤ) → 19 ≤ sub → legal_flag sub v ≡ false
 unfolding legal_flag takes_bit takes_zero
 no-flag sub v h =
     rw (

@@ -12,6 +12,7 @@ use Rattle.counter.specs.declared.state.Counter.{Counter}
 use Rattle.counter.specs.Desk.{empty}
 use Rattle.counter.specs.Parts.{AS, SP, FE, with_pfn, with_mode, with_hip, with_lop, with_ovf, with_unf, with_omb, with_hpo, with_lpo, with_staged}
 use Rattle.counter.specs.Parts.{with_acc, with_out, with_flags, with_desk, flag, on, off}
+use Rattle.counter.specs.Flags.{bit_of}
 use Rattle.counter.specs.Loading.{first_broken, accepted, rejected, load, preset_load}
 use Rattle.counter.specs.Interrupts.{output_mask, quiet, routine_done}
 use Rattle.counter.specs.Sample.{sample}
@@ -103,7 +104,7 @@ numbers_of (SetPfn v) = numbers 3 1 v
 numbers_of (SetMode v) = numbers 3 2 v
 numbers_of (SetOmb w) = numbers 3 3 (pos w)
 numbers_of (SetAs level) = numbers 3 4 (bit_value level)
-numbers_of (Flag n level) = numbers 4 n (bit_value level)
+numbers_of (Flag f level) = numbers 4 (bit_of f) (bit_value level)
 numbers_of (SetAcc v) = numbers 5 0 v
 numbers_of LoadPresets = numbers 6 0 (pos 0)
 numbers_of RoutineDone = numbers 7 0 (pos 0)

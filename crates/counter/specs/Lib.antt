@@ -1,6 +1,8 @@
 -- Document 01's counter, section by section, in the paper's order.
 pub mod Desk
 pub mod Parts
+pub mod Flags
+pub mod Inputs
 pub mod Modes
 pub mod Shown
 pub mod Loading

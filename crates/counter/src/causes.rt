@@ -8,8 +8,9 @@ ghost use Rattle.counter.specs.Interrupts.{unmasked, enabled, quiet, started, fi
 ghost use Rattle.counter.specs.Interrupts.{interrupt, routine_done, with_outputs, raise};
 
 use crate::desk::Outcome;
+use crate::flag::Flag;
+use crate::outputs;
 use crate::state::Counter;
-use crate::{flag, outputs};
 use accumulator::cause::Cause;
 
 impl Counter {
@@ -19,10 +20,10 @@ impl Counter {
         ensures { result ≡ unmasked self.now.flags (number cause) }
     {
         match cause {
-            Cause::LowPreset => self.has(flag::LPM),
-            Cause::HighPreset => self.has(flag::HPM),
-            Cause::Underflow => self.has(flag::UFM),
-            Cause::Overflow => self.has(flag::OFM),
+            Cause::LowPreset => self.has(Flag::Lpm),
+            Cause::HighPreset => self.has(Flag::Hpm),
+            Cause::Underflow => self.has(Flag::Ufm),
+            Cause::Overflow => self.has(Flag::Ofm),
         }
     }
 
@@ -31,7 +32,7 @@ impl Counter {
     fn enabled(&self, cause: Cause) -> bool
         ensures { result ≡ enabled self.now.flags (number cause) }
     {
-        self.has(flag::FE) & self.has(flag::UIE) & self.unmasked(cause)
+        self.has(Flag::Fe) & self.has(Flag::Uie) & self.unmasked(cause)
     }
 
     /// LPI, HPI, UFI and OFI at 0.
@@ -39,10 +40,10 @@ impl Counter {
     pub(crate) fn quiet(&mut self)
         ensures { self.new ≡ with_flags (quiet self.old.flags) self.old }
     {
-        self.clear(flag::LPI);
-        self.clear(flag::HPI);
-        self.clear(flag::UFI);
-        self.clear(flag::OFI);
+        self.clear(Flag::Lpi);
+        self.clear(Flag::Hpi);
+        self.clear(Flag::Ufi);
+        self.clear(Flag::Ofi);
     }
 
     /// The cause's bit of the four at 1, the other three at 0.
@@ -52,10 +53,10 @@ impl Counter {
     {
         self.quiet();
         match cause {
-            Cause::LowPreset => self.set(flag::LPI),
-            Cause::HighPreset => self.set(flag::HPI),
-            Cause::Underflow => self.set(flag::UFI),
-            Cause::Overflow => self.set(flag::OFI),
+            Cause::LowPreset => self.set(Flag::Lpi),
+            Cause::HighPreset => self.set(Flag::Hpi),
+            Cause::Underflow => self.set(Flag::Ufi),
+            Cause::Overflow => self.set(Flag::Ofi),
         }
     }
 
@@ -80,7 +81,7 @@ impl Counter {
         match self.desk.post(cause) {
             Outcome::Starts => self.show(cause),
             Outcome::Waits => {}
-            Outcome::Lost => self.set(flag::UIL),
+            Outcome::Lost => self.set(Flag::Uil),
         }
     }
 

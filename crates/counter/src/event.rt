@@ -1,5 +1,9 @@
 //! What an event asks for, by its kind, sub and value.
-ghost use Rattle.counter.specs.Events.{Parsed};
+ghost use Rattle.std.specs.Prelude.{◌≡◌};
+ghost use Rattle.counter.specs.Flags.{bit_of};
+ghost use Rattle.counter.specs.Events.{Parsed, takes_bit, takes_zero};
+
+use crate::flag::Flag;
 
 /// A legal event.
 #[derive(Clone, Copy, Debug, PartialEq, Eq)]
@@ -16,7 +20,7 @@ pub enum Event {
     SetMode(i16),
     SetOmb(u16),
     SetAs(bool),
-    Flag { flag: u8, level: bool },
+    Flag { flag: Flag, level: bool },
     SetAcc(i32),
     LoadPresets,
     RoutineDone,
@@ -55,20 +59,39 @@ fn device(sub: u8, value: i32) -> Option<Event>
     }
 }
 
-/// A flag write, kind 4. Flags 0, 2 and 5 to 10 take 0 or 1; 1, 11 to 14 and 16 to 18 take 0 only.
-#[tactic(auto, unfolding(crate::specs::Events::legal, crate::specs::Events::legal_flag, crate::specs::Events::takes_bit, crate::specs::Events::takes_zero))]
-fn flag(sub: u8, value: i32) -> Option<Event>
+/// Whether a write may put the flag to 0 or 1.
+#[tactic(auto, unfolding(crate::specs::Events::takes_bit))]
+fn takes_bit(flag: Flag) -> bool
+    ensures { result ≡ takes_bit (bit_of flag) }
+{
+    match flag {
+        Flag::Uie | Flag::Fe | Flag::Ce | Flag::Sp => true,
+        Flag::Lpm | Flag::Hpm | Flag::Ufm | Flag::Ofm => true,
+        _ => false,
+    }
+}
+
+/// Whether a write may put the flag to 0 alone.
+#[tactic(auto, unfolding(crate::specs::Events::takes_zero))]
+fn takes_zero(flag: Flag) -> bool
+    ensures { result ≡ takes_zero (bit_of flag) }
+{
+    match flag {
+        Flag::Uil | Flag::Lpi | Flag::Hpi | Flag::Ufi | Flag::Ofi => true,
+        Flag::Uf | Flag::Of | Flag::Md => true,
+        _ => false,
+    }
+}
+
+/// A flag write, kind 4; sub is the flag's bit.
+#[tactic(auto, unfolding(crate::specs::Events::legal, crate::specs::Events::legal_flag))]
+fn flag_write(sub: u8, value: i32) -> Option<Event>
     ensures { Parsed 4 sub value result }
 {
-    match (sub, value) {
-        (0..=2 | 5..=14 | 16..=18, 0) => Some(Event::Flag {
-            flag: sub,
-            level: false,
-        }),
-        (0 | 2 | 5..=10, 1) => Some(Event::Flag {
-            flag: sub,
-            level: true,
-        }),
+    let flag = Flag::try_from(sub).ok()?;
+    match value {
+        0 if takes_bit(flag) | takes_zero(flag) => Some(Event::Flag { flag, level: false }),
+        1 if takes_bit(flag) => Some(Event::Flag { flag, level: true }),
         _ => None,
     }
 }
@@ -85,7 +108,7 @@ impl Event {
             (1, 0, 0..=15) => Some(Event::Sample(value as u8)),
             (2, _, _) => staged(sub, value),
             (3, _, _) => device(sub, value),
-            (4, _, _) => flag(sub, value),
+            (4, _, _) => flag_write(sub, value),
             (5, 0, _) => Some(Event::SetAcc(value)),
             (6, 0, 0) => Some(Event::LoadPresets),
             (7, 0, 0) => Some(Event::RoutineDone),

@@ -1,40 +1,76 @@
-//! The flags, by bit.
-pub const UIE: u32 = 0;
+//! The flags, which stand in one word.
+ghost use Rattle.std.specs.Prelude.{◌≡◌, ◌<◌};
+ghost use Rattle.counter.specs.Flags.{bit_of, Names};
 
-pub const UIL: u32 = 1;
+/// The flags, in the order of their bits, from bit 0 on.
+#[derive(Clone, Copy, Debug, PartialEq, Eq)]
+pub enum Flag {
+    Uie,
+    Uil,
+    Fe,
+    As,
+    Ed,
+    Ce,
+    Sp,
+    Lpm,
+    Hpm,
+    Ufm,
+    Ofm,
+    Lpi,
+    Hpi,
+    Ufi,
+    Ofi,
+    Dir,
+    Uf,
+    Of,
+    Md,
+    Loaded,
+}
 
-pub const FE: u32 = 2;
+impl Flag {
+    /// Its bit in the flag word.
+    // Inlined, as what calls it is, so that the mask of a flag named in code is a constant.
+    #[inline(always)]
+    pub fn bit(self) -> u32
+        ensures below { result < 32 }
+        ensures bit { result ≡ bit_of self }
+    {
+        self as u32
+    }
+}
 
-pub const AS: u32 = 3;
+/// A number that is no flag's bit.
+#[derive(Clone, Copy, Debug, PartialEq, Eq)]
+pub struct NoFlag(pub u8);
 
-pub const ED: u32 = 4;
+impl TryFrom<u8> for Flag {
+    type Error = NoFlag;
 
-pub const CE: u32 = 5;
+    ghost try_from_gives = { Names };
 
-pub const SP: u32 = 6;
-
-pub const LPM: u32 = 7;
-
-pub const HPM: u32 = 8;
-
-pub const UFM: u32 = 9;
-
-pub const OFM: u32 = 10;
-
-pub const LPI: u32 = 11;
-
-pub const HPI: u32 = 12;
-
-pub const UFI: u32 = 13;
-
-pub const OFI: u32 = 14;
-
-pub const DIR: u32 = 15;
-
-pub const UF: u32 = 16;
-
-pub const OF: u32 = 17;
-
-pub const MD: u32 = 18;
-
-pub const LOADED: u32 = 19;
+    fn try_from(number: u8) -> Result<Self, NoFlag> {
+        match number {
+            0 => Ok(Flag::Uie),
+            1 => Ok(Flag::Uil),
+            2 => Ok(Flag::Fe),
+            3 => Ok(Flag::As),
+            4 => Ok(Flag::Ed),
+            5 => Ok(Flag::Ce),
+            6 => Ok(Flag::Sp),
+            7 => Ok(Flag::Lpm),
+            8 => Ok(Flag::Hpm),
+            9 => Ok(Flag::Ufm),
+            10 => Ok(Flag::Ofm),
+            11 => Ok(Flag::Lpi),
+            12 => Ok(Flag::Hpi),
+            13 => Ok(Flag::Ufi),
+            14 => Ok(Flag::Ofi),
+            15 => Ok(Flag::Dir),
+            16 => Ok(Flag::Uf),
+            17 => Ok(Flag::Of),
+            18 => Ok(Flag::Md),
+            19 => Ok(Flag::Loaded),
+            _ => Err(NoFlag(number)),
+        }
+    }
+}

@@ -1,6 +1,7 @@
 //! One input sample: edges of the four inputs, and what the mode makes of them.
 ghost use Rattle.std.specs.Prelude.{◌≡◌, ◌<◌};
 ghost use Rattle.word.specs.Masks.{bit};
+ghost use Rattle.counter.specs.Inputs.{number};
 ghost use Rattle.counter.specs.Modes.{mode_number};
 ghost use Rattle.counter.specs.Sample.{rises, falls, reset_by, inhibited, direction, alone_up};
 ghost use Rattle.counter.specs.Sample.{by_level, by_input, by_phase, count_of};
@@ -16,28 +17,49 @@ pub enum Count {
     Down,
 }
 
-/// Whether input n is on.
-pub fn is_on(levels: u8, n: u32) -> bool
-    requires { n < 32 }
-    ensures { result ≡ bit levels n }
-{
-    bits::has(levels as u32, n)
+/// The four inputs, in the order of their numbers.
+#[derive(Clone, Copy, Debug, PartialEq, Eq)]
+pub enum Input {
+    /// Input 0.
+    A,
+    /// Input 1.
+    B,
+    /// Input 2.
+    Z,
+    /// Input 3, the hold in modes 1, 3, 5 and 7.
+    Hold,
 }
 
-/// Whether input n goes from off to on.
-pub fn rises(old: u8, new: u8, n: u32) -> bool
-    requires { n < 32 }
-    ensures { result ≡ rises old new n }
-{
-    !is_on(old, n) & is_on(new, n)
+impl Input {
+    /// Its number, which is its bit in the levels.
+    #[inline(always)]
+    pub fn number(self) -> u32
+        ensures below { result < 4 }
+        ensures number { result ≡ number self }
+    {
+        self as u32
+    }
 }
 
-/// Whether input n goes from on to off.
-fn falls(old: u8, new: u8, n: u32) -> bool
-    requires { n < 32 }
-    ensures { result ≡ falls old new n }
+/// Whether the input is on.
+pub fn is_on(levels: u8, input: Input) -> bool
+    ensures { result ≡ bit levels (number input) }
 {
-    is_on(old, n) & !is_on(new, n)
+    bits::has(u32::from(levels), input.number())
+}
+
+/// Whether the input goes from off to on.
+pub fn rises(old: u8, new: u8, input: Input) -> bool
+    ensures { result ≡ rises old new (number input) }
+{
+    !is_on(old, input) & is_on(new, input)
+}
+
+/// Whether the input goes from on to off.
+fn falls(old: u8, new: u8, input: Input) -> bool
+    ensures { result ≡ falls old new (number input) }
+{
+    is_on(old, input) & !is_on(new, input)
 }
 
 /// Whether no input goes from off to on, told by one test of all levels.
@@ -54,8 +76,10 @@ pub(crate) fn reset_by(mode: Option<Mode>, old: u8, new: u8) -> bool
     ensures { result ≡ reset_by (mode_number mode) old new }
 {
     match mode {
-        Some(Mode::UpReset | Mode::DirectionReset | Mode::UpDownReset) => rises(old, new, 2),
-        Some(Mode::QuadratureReset) => { falls(old, new, 0) & (!is_on(new, 1) & is_on(new, 2)) }
+        Some(Mode::UpReset | Mode::DirectionReset | Mode::UpDownReset) => rises(old, new, Input::Z),
+        Some(Mode::QuadratureReset) => {
+            falls(old, new, Input::A) & (!is_on(new, Input::B) & is_on(new, Input::Z))
+        }
         _ => false,
     }
 }
@@ -66,8 +90,8 @@ pub(crate) fn inhibited(mode: Option<Mode>, new: u8) -> bool
     ensures { result ≡ inhibited (mode_number mode) new }
 {
     match mode {
-        Some(Mode::UpReset | Mode::DirectionReset | Mode::UpDownReset) => is_on(new, 3),
-        Some(Mode::QuadratureReset) => is_on(new, 3) | is_on(new, 2),
+        Some(Mode::UpReset | Mode::DirectionReset | Mode::UpDownReset) => is_on(new, Input::Hold),
+        Some(Mode::QuadratureReset) => is_on(new, Input::Hold) | is_on(new, Input::Z),
         _ => false,
     }
 }
@@ -77,7 +101,7 @@ pub(crate) fn inhibited(mode: Option<Mode>, new: u8) -> bool
 fn alone_up(old: u8, new: u8) -> Option<Count>
     ensures { count_of result ≡ alone_up old new }
 {
-    if rises(old, new, 0) {
+    if rises(old, new, Input::A) {
         Some(Count::Up)
     } else {
         None
@@ -89,7 +113,7 @@ fn alone_up(old: u8, new: u8) -> Option<Count>
 fn by_level(old: u8, new: u8) -> Option<Count>
     ensures { count_of result ≡ by_level old new }
 {
-    match (rises(old, new, 0), is_on(new, 1)) {
+    match (rises(old, new, Input::A), is_on(new, Input::B)) {
         (true, false) => Some(Count::Up),
         (true, true) => Some(Count::Down),
         _ => None,
@@ -101,7 +125,7 @@ fn by_level(old: u8, new: u8) -> Option<Count>
 fn by_input(old: u8, new: u8) -> Option<Count>
     ensures { count_of result ≡ by_input old new }
 {
-    match (rises(old, new, 0), rises(old, new, 1)) {
+    match (rises(old, new, Input::A), rises(old, new, Input::B)) {
         (true, false) => Some(Count::Up),
         (false, true) => Some(Count::Down),
         _ => None,
@@ -113,11 +137,11 @@ fn by_input(old: u8, new: u8) -> Option<Count>
 fn by_phase(old: u8, new: u8) -> Option<Count>
     ensures { count_of result ≡ by_phase old new }
 {
-    if is_on(new, 1) {
+    if is_on(new, Input::B) {
         None
-    } else if rises(old, new, 0) {
+    } else if rises(old, new, Input::A) {
         Some(Count::Up)
-    } else if falls(old, new, 0) {
+    } else if falls(old, new, Input::A) {
         Some(Count::Down)
     } else {
         None

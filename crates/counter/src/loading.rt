@@ -4,7 +4,7 @@ ghost use Rattle.counter.specs.Parts.{with_active};
 ghost use Rattle.counter.specs.Loading.{rule_number, first_broken, without_error, accepted};
 ghost use Rattle.counter.specs.Loading.{rejected, load, with_presets, preset_load};
 
-use crate::flag;
+use crate::flag::Flag;
 use crate::rules::Rule;
 use crate::state::{Counter, Settings};
 
@@ -29,7 +29,7 @@ impl Counter {
         ensures { self.new ≡ without_error self.old }
     {
         self.er = 0;
-        self.clear(flag::ED);
+        self.clear(Flag::Ed);
     }
 
     /// Active becomes staged, loaded 1.
@@ -37,7 +37,7 @@ impl Counter {
         ensures { self.new ≡ accepted self.old }
     {
         self.active = self.staged;
-        self.set(flag::LOADED);
+        self.set(Flag::Loaded);
         self.clear_error();
     }
 
@@ -46,7 +46,7 @@ impl Counter {
         ensures { self.new ≡ rejected (rule_number rule) self.old }
     {
         self.er = u16::from(rule);
-        self.set(flag::ED);
+        self.set(Flag::Ed);
     }
 
     /// Loads the staged settings; answers whether they are accepted.
@@ -80,7 +80,7 @@ impl Counter {
     pub fn preset_load(&mut self)
         ensures { self.new ≡ preset_load self.old }
     {
-        if !self.has(flag::LOADED) {
+        if !self.has(Flag::Loaded) {
             return;
         }
         let next = self.active.with_presets_of(&self.staged);

@@ -2,7 +2,7 @@
 ghost use Rattle.std.specs.Prelude.{◌≡◌};
 ghost use Rattle.counter.specs.Shown.{uix, uip, cu, two_way, cd, hpr, lpr};
 
-use crate::flag;
+use crate::flag::Flag;
 use crate::state::Counter;
 
 impl Counter {
@@ -27,14 +27,14 @@ impl Counter {
     pub fn cu(&self) -> bool
         ensures { result ≡ cu self.now }
     {
-        self.has(flag::CE)
+        self.has(Flag::Ce)
     }
 
     /// A mode of 2 to 7 is loaded.
     fn two_way(&self) -> bool
         ensures { result ≡ two_way self.now }
     {
-        self.has(flag::LOADED) & !self.active.up_only()
+        self.has(Flag::Loaded) & !self.active.up_only()
     }
 
     /// CE, in a mode of 2 to 7.
@@ -42,7 +42,7 @@ impl Counter {
     pub fn cd(&self) -> bool
         ensures { result ≡ cd self.now }
     {
-        self.has(flag::CE) & self.two_way()
+        self.has(Flag::Ce) & self.two_way()
     }
 
     /// ACC is HIP or above, with settings loaded.
@@ -50,7 +50,7 @@ impl Counter {
     pub fn hpr(&self) -> bool
         ensures { result ≡ hpr self.now }
     {
-        self.has(flag::LOADED) & (self.active.hip <= self.acc)
+        self.has(Flag::Loaded) & (self.active.hip <= self.acc)
     }
 
     /// ACC is LOP or below, in a mode of 2 to 7.

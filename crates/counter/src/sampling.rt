@@ -7,7 +7,7 @@ ghost use Rattle.counter.specs.Sample.{counted_by, resets, may_count, allowed_co
 ghost use Rattle.counter.specs.Sample.{count_of, sampled_as, sampled_of};
 ghost use Rattle.counter.specs.Idle.{idle};
 
-use crate::flag;
+use crate::flag::Flag;
 use crate::inputs::{self, Count};
 use crate::state::Counter;
 use accumulator::cause::Cause;
@@ -26,10 +26,10 @@ pub struct Sampled {
 fn up_flags(single: bool, cause: Option<Cause>, flags: u32) -> u32
     ensures { result ≡ up_flags single (cause_number cause) flags }
 {
-    let counted = bits::set(flags, flag::DIR);
+    let counted = bits::set(flags, Flag::Dir.bit());
     match cause {
-        Some(Cause::Overflow) => bits::set(counted, flag::OF),
-        Some(Cause::HighPreset) if single => bits::set(counted, flag::MD),
+        Some(Cause::Overflow) => bits::set(counted, Flag::Of.bit()),
+        Some(Cause::HighPreset) if single => bits::set(counted, Flag::Md.bit()),
         _ => counted,
     }
 }
@@ -39,9 +39,9 @@ fn up_flags(single: bool, cause: Option<Cause>, flags: u32) -> u32
 fn down_flags(cause: Option<Cause>, flags: u32) -> u32
     ensures { result ≡ down_flags (cause_number cause) flags }
 {
-    let counted = bits::clear(flags, flag::DIR);
+    let counted = bits::clear(flags, Flag::Dir.bit());
     match cause {
-        Some(Cause::Underflow) => bits::set(counted, flag::UF),
+        Some(Cause::Underflow) => bits::set(counted, Flag::Uf.bit()),
         _ => counted,
     }
 }
@@ -109,7 +109,7 @@ impl Counter {
     fn resets(&self, new: u8) -> bool
         ensures { result ≡ resets new self.now }
     {
-        self.has(flag::LOADED) & inputs::reset_by(self.active.mode(), self.levels, new)
+        self.has(Flag::Loaded) & inputs::reset_by(self.active.mode(), self.levels, new)
     }
 
     /// Whether the sample may count: CE is 1, and no input inhibits it.
@@ -117,7 +117,7 @@ impl Counter {
     fn may_count(&self, new: u8) -> bool
         ensures { result ≡ may_count new self.now }
     {
-        self.has(flag::LOADED) & (self.has(flag::CE) & !inputs::inhibited(self.active.mode(), new))
+        self.has(Flag::Loaded) & (self.has(Flag::Ce) & !inputs::inhibited(self.active.mode(), new))
     }
 
     /// The count that a sample makes which does not reset.

@@ -1,9 +1,11 @@
 //! The counter's parts, and the counter as it starts.
-ghost use Rattle.std.specs.Prelude.{◌≡◌, ◌<◌};
+ghost use Rattle.std.specs.Prelude.{◌≡◌};
 ghost use Rattle.word.specs.Masks.{bit};
+ghost use Rattle.counter.specs.Flags.{bit_of};
 ghost use Rattle.counter.specs.Parts.{fresh, on, off};
 
 use crate::desk::Desk;
+use crate::flag::Flag;
 use word::bits;
 
 /// What a load copies from staged to active, in the snapshot's order.
@@ -35,7 +37,7 @@ pub struct Counter {
 
 impl Counter {
     /// A counter that was never set up: nothing is loaded, and every cause may interrupt.
-    #[tactic(auto, unfolding(crate::specs::Parts::fresh, word::specs::Masks::set_bit))]
+    #[tactic(auto, unfolding(crate::specs::Parts::fresh))]
     pub fn fresh() -> Self
         ensures { result ≡ fresh }
     {
@@ -46,39 +48,44 @@ impl Counter {
             unf: i32::MIN,
             ..Settings::default()
         };
-        Counter {
+        let mut counter = Counter {
             staged,
             active: Settings::default(),
             acc: 0,
             out: 0,
             er: 0,
-            flags: 0b111_1000_0000,
+            flags: 0,
             levels: 0,
             desk: Desk::empty(),
-        }
+        };
+        counter.set(Flag::Ofm);
+        counter.set(Flag::Ufm);
+        counter.set(Flag::Hpm);
+        counter.set(Flag::Lpm);
+        counter
     }
 
-    /// Whether a flag, by its bit, is 1.
-    pub fn has(&self, n: u32) -> bool
-        requires { n < 32 }
-        ensures { result ≡ bit self.now.flags n }
+    /// Whether the flag is 1.
+    #[inline(always)]
+    pub fn has(&self, flag: Flag) -> bool
+        ensures { result ≡ bit self.now.flags (bit_of flag) }
     {
-        bits::has(self.flags, n)
+        bits::has(self.flags, flag.bit())
     }
 
-    /// Sets a flag to 1.
-    pub fn set(&mut self, n: u32)
-        requires { n < 32 }
-        ensures { self.new ≡ on n self.old }
+    /// Sets the flag to 1.
+    #[inline(always)]
+    pub fn set(&mut self, flag: Flag)
+        ensures { self.new ≡ on (bit_of flag) self.old }
     {
-        self.flags = bits::set(self.flags, n);
+        self.flags = bits::set(self.flags, flag.bit());
     }
 
-    /// Sets a flag to 0.
-    pub(crate) fn clear(&mut self, n: u32)
-        requires { n < 32 }
-        ensures { self.new ≡ off n self.old }
+    /// Sets the flag to 0.
+    #[inline(always)]
+    pub(crate) fn clear(&mut self, flag: Flag)
+        ensures { self.new ≡ off (bit_of flag) self.old }
     {
-        self.flags = bits::clear(self.flags, n);
+        self.flags = bits::clear(self.flags, flag.bit());
     }
 }

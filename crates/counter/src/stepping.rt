@@ -1,5 +1,6 @@
 //! The step of each event.
-ghost use Rattle.std.specs.Prelude.{◌≡◌, ◌<◌};
+ghost use Rattle.std.specs.Prelude.{◌≡◌};
+ghost use Rattle.counter.specs.Flags.{bit_of};
 ghost use Rattle.counter.specs.Parts.{with_out};
 ghost use Rattle.counter.specs.Events.{levels_of, program_word, bit_value, Legal, controlled};
 ghost use Rattle.counter.specs.Events.{set_to, sp_rises};
@@ -8,8 +9,9 @@ ghost use Rattle.counter.specs.Events.{step, step_control};
 
 use crate::desk::Desk;
 use crate::event::Event;
+use crate::flag::Flag;
+use crate::outputs;
 use crate::state::Counter;
-use crate::{flag, outputs};
 
 /// The levels that a sample's value gives.
 pub fn levels_of(v: i32) -> u8
@@ -19,37 +21,35 @@ pub fn levels_of(v: i32) -> u8
 }
 
 impl Counter {
-    /// Flag n at a level.
-    fn put(&mut self, n: u32, level: bool)
-        requires { n < 32 }
-        ensures { self.new ≡ set_to n (bit_value level) self.old }
+    /// The flag at a level.
+    fn put(&mut self, flag: Flag, level: bool)
+        ensures { self.new ≡ set_to (bit_of flag) (bit_value level) self.old }
     {
         if level {
-            self.set(n);
+            self.set(flag);
         } else {
-            self.clear(n);
+            self.clear(flag);
         }
     }
 
     /// Whether the write takes SP from 0 to 1.
     #[tactic(auto, unfolding(crate::specs::Events::sp_rises))]
-    fn sp_rises(&self, flag: u8, level: bool) -> bool
-        ensures { result ≡ sp_rises flag (bit_value level) self.now }
+    fn sp_rises(&self, flag: Flag, level: bool) -> bool
+        ensures { result ≡ sp_rises (bit_of flag) (bit_value level) self.now }
     {
-        (u32::from(flag) == flag::SP) & level & !self.has(flag::SP)
+        (flag == Flag::Sp) & level & !self.has(Flag::Sp)
     }
 
-    /// Writes a flag by its bit; SP going from 0 to 1 loads.
+    /// Writes a flag; SP going from 0 to 1 loads.
     #[tactic(auto, unfolding(crate::specs::Events::flag_write))]
-    fn write_flag(&mut self, flag: u8, level: bool)
-        requires { flag < 32 }
-        ensures { self.new ≡ flag_write flag (bit_value level) self.old }
+    fn write_flag(&mut self, flag: Flag, level: bool)
+        ensures { self.new ≡ flag_write (bit_of flag) (bit_value level) self.old }
     {
         if self.sp_rises(flag, level) {
-            self.set(flag::SP);
+            self.set(Flag::Sp);
             self.load();
         } else {
-            self.put(u32::from(flag), level);
+            self.put(flag, level);
         }
     }
 
@@ -67,7 +67,7 @@ impl Counter {
         ensures { self.new ≡ auto_start self.old }
     {
         if self.load() {
-            self.set(flag::FE);
+            self.set(Flag::Fe);
         }
     }
 
@@ -76,7 +76,7 @@ impl Counter {
     fn enter_run(&mut self)
         ensures { self.new ≡ enter_run self.old }
     {
-        let starts = self.has(flag::AS);
+        let starts = self.has(Flag::As);
         self.empty();
         if starts {
             self.auto_start();
@@ -108,7 +108,7 @@ impl Counter {
             Event::SetPfn(number) => self.staged.pfn = number,
             Event::SetMode(number) => self.staged.mode = number,
             Event::SetOmb(word) => self.staged.omb = word,
-            Event::SetAs(level) => self.put(flag::AS, level),
+            Event::SetAs(level) => self.put(Flag::As, level),
             Event::Flag { flag, level } => self.write_flag(flag, level),
             Event::SetAcc(value) => self.acc = value,
             Event::LoadPresets => self.preset_load(),

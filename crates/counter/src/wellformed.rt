@@ -6,9 +6,10 @@ ghost use Rattle.counter.specs.WellFormed.{is_none, causes_formed, error_formed,
 ghost use Rattle.counter.specs.WellFormed.{well_formed};
 
 use crate::desk::{Desk, queued_of};
+use crate::flag::Flag;
 use crate::outputs::OUTPUTS_END;
+use crate::rules;
 use crate::state::{Counter, Settings};
-use crate::{flag, rules};
 
 /// Below this, flag bits 20-31 are zero.
 const FLAGS_END: u32 = 0x10_0000;
@@ -51,14 +52,14 @@ impl Counter {
     fn error_formed(&self) -> bool
         ensures { result ≡ error_formed self.now.er self.now.flags }
     {
-        (self.er <= rules::COUNT) & (self.has(flag::ED) == !(self.er == 0))
+        (self.er <= rules::COUNT) & (self.has(Flag::Ed) == !(self.er == 0))
     }
 
     /// The active settings pass the rules if loaded, and are all 0 if not.
     fn active_formed(&self) -> bool
         ensures { result ≡ active_formed self.now.flags self.now.active }
     {
-        if self.has(flag::LOADED) {
+        if self.has(Flag::Loaded) {
             self.active.check().is_ok()
         } else {
             self.active.is_none()

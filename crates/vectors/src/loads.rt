@@ -1,7 +1,7 @@
 // Crate `counter`: the rows of document 01's bench table that are run, and not proved, and those of document 02, request 6. Settings by
 // what a row names, the rest good.
 use super::words::verdict;
-use counter::flag;
+use counter::flag::Flag;
 use counter::rules::Rule;
 use counter::state::{Counter, Settings};
 use std::io;
@@ -53,7 +53,7 @@ fn preset_load(rt: &impl Print, name: &str, s: Settings, expected: u16) -> io::R
     let mut c = Counter::fresh();
     c.staged = s;
     c.active = settings(3, 2, 3, -2, 5, -3);
-    c.set(flag::LOADED);
+    c.set(Flag::Loaded);
     c.step(6, 0, 0);
     print_error(rt, name, c.er)?;
     let loaded = c.active.hip == s.hip;

@@ -1,7 +1,7 @@
 // Crate `counter`: input 0 falls in modes 6 and 7 with the other three inputs and CE in both positions (document 02, request 4).
 use super::loads::settings;
 use super::words::verdict;
-use counter::flag;
+use counter::flag::Flag;
 use counter::state::Counter;
 use std::io;
 
@@ -18,10 +18,10 @@ fn before(mode: i16, ce: bool, levels: u8) -> Counter {
     c.active = settings(3, mode, 50, -50, 60, -60);
     c.acc = 5;
     c.levels = levels;
-    c.set(flag::LOADED);
-    c.set(flag::DIR);
+    c.set(Flag::Loaded);
+    c.set(Flag::Dir);
     if ce {
-        c.set(flag::CE);
+        c.set(Flag::Ce);
     }
     c
 }
@@ -50,8 +50,8 @@ fn in_mode(mode: i16, ce: bool, new: u8, expected: i32) -> Fall {
     let up = expected != 4;
     Fall {
         acc: alone.acc,
-        dir: alone.has(flag::DIR),
-        ok: acc && alone.has(flag::DIR) == up && all.has(flag::DIR) == up,
+        dir: alone.has(Flag::Dir),
+        ok: acc && alone.has(Flag::Dir) == up && all.has(Flag::Dir) == up,
     }
 }
 
