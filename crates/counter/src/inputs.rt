@@ -150,6 +150,7 @@ fn by_phase(old: u8, new: u8) -> Option<Count>
 
 /// What the mode makes of a sample.
 #[tactic(auto, unfolding(crate::specs::Sample::direction))]
+#[inline(always)]
 pub(crate) fn direction(mode: Option<Mode>, old: u8, new: u8) -> Option<Count>
     ensures { count_of result ≡ direction (mode_number mode) old new }
 {

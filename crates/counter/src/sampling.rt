@@ -57,7 +57,10 @@ fn reset(flags: u32) -> Sampled
     }
 }
 
+// Nearly every event is a sample: its code stands whole in each loop that takes events (`inline`), so that
+// no call is made for it and no state copied.
 impl Counter {
+    #[inline(always)]
     fn unmoved(&self) -> Sampled
         ensures { sampled_of result ≡ unmoved self.now }
     {
@@ -68,6 +71,7 @@ impl Counter {
         }
     }
 
+    #[inline(always)]
     fn counted_up(&self) -> Sampled
         ensures { sampled_of result ≡ counted_up self.now }
     {
@@ -81,6 +85,7 @@ impl Counter {
         }
     }
 
+    #[inline(always)]
     fn counted_down(&self) -> Sampled
         ensures { sampled_of result ≡ counted_down self.now }
     {
@@ -94,6 +99,7 @@ impl Counter {
     }
 
     #[tactic(auto, unfolding(crate::specs::Sample::counted_by))]
+    #[inline(always)]
     fn counted_by(&self, way: Option<Count>) -> Sampled
         ensures { sampled_of result ≡ counted_by (count_of way) self.now }
     {
@@ -106,6 +112,7 @@ impl Counter {
 
     /// Whether the sample resets: settings are loaded, and the inputs reset in their mode.
     #[tactic(auto, unfolding(crate::specs::Sample::resets))]
+    #[inline(always)]
     fn resets(&self, new: u8) -> bool
         ensures { result ≡ resets new self.now }
     {
@@ -114,6 +121,7 @@ impl Counter {
 
     /// Whether the sample may count: CE is 1, and no input inhibits it.
     #[tactic(auto, unfolding(crate::specs::Sample::may_count))]
+    #[inline(always)]
     fn may_count(&self, new: u8) -> bool
         ensures { result ≡ may_count new self.now }
     {
@@ -121,6 +129,7 @@ impl Counter {
     }
 
     /// The count that a sample makes which does not reset.
+    #[inline(always)]
     fn count(&self, new: u8) -> Option<Count>
         ensures { count_of result ≡ allowed_count new self.now }
     {
@@ -134,6 +143,7 @@ impl Counter {
     /// Whether it is told at once that nothing comes of the sample but its levels: no input
     /// rises, in a mode that goes by rises alone.
     #[tactic(auto, unfolding(crate::specs::Idle::idle, crate::specs::Idle::by_rises))]
+    #[inline(always)]
     pub fn is_idle(&self, new: u8) -> bool
         ensures { result ≡ idle new self.now }
     {
@@ -142,6 +152,7 @@ impl Counter {
 
     /// What the sample makes of ACC and the flags.
     #[tactic(auto, unfolding(crate::specs::Sample::sampled, crate::specs::Sample::count))]
+    #[inline(always)]
     pub fn sampled(&self, new: u8) -> Sampled
         ensures { sampled_of result ≡ sampled new self.now }
     {

@@ -86,6 +86,7 @@ impl Machine for Running {
         Running { snapshot, moving }
     }
 
+    #[inline(always)]
     fn step(&mut self, events: &[u8], at: usize) {
         split::step_over(&mut self.snapshot, &mut self.moving, events, at);
     }
