@@ -1,13 +1,12 @@
 //! The state while events are taken: a snapshot's bytes, and beside them ACC, the flags and the
-//! levels, which nearly every event moves.
-ghost use Rattle.std.specs.Prelude.{◌≡◌, [], ◌∷◌, ◌+◌, ◌≤◌, length};
-ghost use Rattle.std.specs.Int.{w32};
+//! levels, which nearly every event moves. Both stay lent bytes, side by side in each call: the
+//! theorem `step-over` speaks of `step_over` over them.
+ghost use Rattle.std.specs.Prelude.{◌≡◌, ◌+◌, ◌≤◌, length};
 ghost use Rattle.word.specs.Part.{part, put};
-ghost use Rattle.word.specs.TwosComplement.{unsigned};
 ghost use Rattle.word.specs.Layouts.{pack};
 ghost use Rattle.accumulator.specs.Causes.{number};
 ghost use Rattle.counter.specs.Desk.{empty};
-ghost use Rattle.counter.specs.Parts.{with_acc, with_flags, with_levels, with_desk};
+ghost use Rattle.counter.specs.Parts.{with_desk};
 ghost use Rattle.counter.specs.Interrupts.{raise};
 ghost use Rattle.counter.specs.Sample.{sample};
 ghost use Rattle.counter.specs.Events.{step_control};
@@ -15,6 +14,7 @@ ghost use Rattle.snapshot.specs.Widths.{snapshot_size, moving_size, moving_layou
 ghost use Rattle.snapshot.specs.Snapshots.{encode, decode};
 ghost use Rattle.snapshot.specs.EventBytes.{step_event};
 ghost use Rattle.snapshot.specs.Split.{split_state, HoldsIfGood};
+ghost use Rattle.snapshot.specs.Split.{moving_at, moving_row, moving_of, with_moving};
 
 use crate::event::read_event;
 use crate::{SNAPSHOT_SIZE, codec, places};
@@ -25,15 +25,65 @@ use counter::{legality, stepping};
 use word::bytes::LittleEndian;
 use word::parts::{copy_over, copy_part};
 
+/// The numbers beside a snapshot.
+#[derive(Clone, Copy)]
+struct Moving {
+    acc: i32,
+    flags: u32,
+    levels: u8,
+}
+
+impl Moving {
+    /// Those of a state.
+    fn of(c: &Counter) -> Self
+        ensures { result ≡ moving_of c.now }
+    {
+        Moving {
+            acc: c.acc,
+            flags: c.flags,
+            levels: c.levels,
+        }
+    }
+
+    /// The numbers in their bytes.
+    fn read(bytes: &[u8]) -> Self
+        requires { length bytes.now ≡ moving_size }
+        ensures { result ≡ moving_at bytes.now }
+    {
+        Moving {
+            acc: i32::read(bytes, 0),
+            flags: u32::read(bytes, places::MOVING_FLAGS),
+            levels: u8::read(bytes, places::MOVING_LEVELS),
+        }
+    }
+
+    /// Writes the numbers over their bytes.
+    fn write(self, bytes: &mut [u8])
+        requires { length bytes.old ≡ moving_size }
+        ensures { bytes.new ≡ pack moving_layout (moving_row self) }
+    {
+        self.acc.write(bytes, 0);
+        self.flags.write(bytes, places::MOVING_FLAGS);
+        self.levels.write(bytes, places::MOVING_LEVELS);
+    }
+
+    /// Puts the numbers into a state.
+    fn store(self, c: &mut Counter)
+        ensures { c.new ≡ with_moving self c.old }
+    {
+        c.acc = self.acc;
+        c.flags = self.flags;
+        c.levels = self.levels;
+    }
+}
+
 /// The state that the two hold.
 pub fn read_state(s: &[u8], moving: &[u8]) -> Counter
     requires { (length s.now ≡ snapshot_size) × (length moving.now ≡ moving_size) }
     ensures { result ≡ split_state s.now moving.now }
 {
     let mut c = codec::decode(s, 0);
-    c.acc = i32::read(moving, 0);
-    c.flags = u32::read(moving, places::MOVING_FLAGS);
-    c.levels = u8::read(moving, places::MOVING_LEVELS);
+    Moving::read(moving).store(&mut c);
     c
 }
 
@@ -45,22 +95,13 @@ pub fn read_acc(s: &[u8], moving: &[u8]) -> i32
     i32::read(moving, 0)
 }
 
-fn write_moving(moving: &mut [u8], acc: i32, flags: u32, levels: u8)
-    requires { length moving.old ≡ moving_size }
-    ensures { moving.new ≡ pack moving_layout (unsigned w32 acc ∷ flags ∷ levels ∷ []) }
-{
-    acc.write(moving, 0);
-    flags.write(moving, places::MOVING_FLAGS);
-    levels.write(moving, places::MOVING_LEVELS);
-}
-
 /// The state over both.
 pub fn write_state(c: Counter, s: &mut [u8], moving: &mut [u8])
     requires { (length s.old ≡ snapshot_size) × (length moving.old ≡ moving_size) }
     ensures { HoldsIfGood c s.new moving.new }
 {
     codec::encode(c, s, 0);
-    write_moving(moving, c.acc, c.flags, c.levels);
+    Moving::of(&c).write(moving);
 }
 
 /// Puts the moving numbers of a snapshot beside it.
@@ -110,18 +151,15 @@ pub fn write_snapshot(image: &mut [u8], at: usize, s: &[u8], moving: &[u8])
     write_over(image, at, moving);
 }
 
-// Another ACC, flags and levels, and then the cause. The state is read again here: kept from before the sample, it would have to be read
-// whole for every sample.
+// Other numbers, and then the cause. The state is read again here: kept from before the sample, it
+// would have to be read whole for every sample.
 #[inline(never)]
-fn raise_over(s: &mut [u8], moving: &mut [u8], acc: i32, flags: u32, levels: u8, cause: Cause)
+fn raise_over(s: &mut [u8], moving: &mut [u8], next: Moving, cause: Cause)
     requires { (length s.old ≡ snapshot_size) × (length moving.old ≡ moving_size) }
-    ensures { HoldsIfGood (raise (number cause) (with_flags flags (with_acc acc (with_levels levels (decode s.old)))))
-        s.new moving.new }
+    ensures { HoldsIfGood (raise (number cause) (with_moving next (decode s.old))) s.new moving.new }
 {
     let mut c = codec::decode(s, 0);
-    c.acc = acc;
-    c.flags = flags;
-    c.levels = levels;
+    next.store(&mut c);
     c.raise(cause);
     write_state(c, s, moving);
 }
@@ -136,7 +174,8 @@ fn read_without_desk(s: &[u8], moving: &[u8]) -> Counter
     c
 }
 
-// A sample; where it raises no cause, the snapshot's bytes are not touched, and where nothing comes of it, only the levels are written.
+// A sample; where it raises no cause, the snapshot's bytes are not touched, and where nothing comes
+// of it, only the levels are written.
 #[inline(always)]
 fn sample_over(s: &mut [u8], moving: &mut [u8], new: u8)
     requires { (length s.old ≡ snapshot_size) × (length moving.old ≡ moving_size) }
@@ -147,9 +186,14 @@ fn sample_over(s: &mut [u8], moving: &mut [u8], new: u8)
         moving[places::MOVING_LEVELS] = new;
     } else {
         let r = c.sampled(new);
+        let next = Moving {
+            acc: r.acc,
+            flags: r.flags,
+            levels: new,
+        };
         match r.cause {
-            None => write_moving(moving, r.acc, r.flags, new),
-            Some(cause) => raise_over(s, moving, r.acc, r.flags, new, cause),
+            None => next.write(moving),
+            Some(cause) => raise_over(s, moving, next, cause),
         }
     }
 }

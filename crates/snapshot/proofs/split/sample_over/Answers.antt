@@ -48,7 +48,7 @@ returns-in-None c =
     let made_of : sampled_of r ≡ sampled new held =
     c.sampled-r.ensures ∙ ap (sampled new) c.read_without_desk-c.ensures ∙ sampled-desk new empty held in
     let fits = sampled-typed r _ c.struct_told-1.given in
-    let moving = c.write_moving.ensures ∙ ap (λ (v : ℤ). pack moving_layout (unsigned w32 v ∷ r.flags ∷ new ∷ [])) (signed-unsigned fits) in
+    let moving = c.write.ensures ∙ ap (λ (v : ℤ). pack moving_layout (unsigned w32 v ∷ r.flags ∷ new ∷ [])) (signed-unsigned fits) in
     λ good. ap (split_state c.args.s.now) moving
     ∙ split-moving r.acc r.flags new c.args.s.now c.args.moving.now fits
     c.struct_told-1.given.1.0.1 c.ranges.new.fits
@@ -63,7 +63,7 @@ returns-in-Some c =
     let cause = number c.in-Some.cause in
     let made_of : sampled_of r ≡ sampled new held =
     c.sampled-r.ensures ∙ ap (sampled new) c.read_without_desk-c.ensures ∙ sampled-desk new empty held in
-    let fits = sampled-typed r _ c.struct_told-in-Some-1.given in
+    let fits = sampled-typed r _ c.struct_told-1.given in
     let next =
     ap (λ (v : ℤ). raise cause (with_flags r.flags (with_acc v (with_levels new (decode c.args.s.now))))) (signed-unsigned fits)
     ∙ ap (raise cause) (sym (split-with r.acc r.flags new c.args.s.now c.args.moving.now))
