@@ -120,6 +120,10 @@ resets new c = flag c LOADED && reset_by (mode c) c.levels new
 unfoldable pub may_count : ℕ → Counter → Bool
 may_count new c = flag c LOADED && flag c CE && not (inhibited (mode c) new)
 
+-- the count of a sample that does not reset
+abbrev pub allowed_count : ℕ → Counter → Count
+allowed_count new c = cond (may_count new c) (direction (mode c) c.levels new) None
+
 -- the count that a sample makes; a reset makes none
 unfoldable pub count : ℕ → Counter → Count
 count new c = cond (resets new c) None (cond (may_count new c) (direction (mode c) c.levels new) None)

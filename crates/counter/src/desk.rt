@@ -89,7 +89,7 @@ impl Desk {
 
     /// Takes a cause that comes: it waits already, starts, waits or is lost.
     #[tactic(auto, unfolding(crate::specs::Desk::post))]
-    pub fn post(&mut self, cause: Cause) -> Outcome
+    pub(crate) fn post(&mut self, cause: Cause) -> Outcome
         ensures outcome { result ≡ (post (number cause) self.old).outcome }
         ensures desk { self.new ≡ (post (number cause) self.old).desk }
     {

@@ -5,7 +5,7 @@ ghost use Rattle.counter.specs.Inputs.{number};
 ghost use Rattle.counter.specs.Modes.{mode_number};
 ghost use Rattle.counter.specs.Sample.{rises, falls, reset_by, inhibited, direction, alone_up};
 ghost use Rattle.counter.specs.Sample.{by_level, by_input, by_phase, count_of};
-ghost use Rattle.counter.specs.Idle.{none_rises, by_rises};
+ghost use Rattle.counter.specs.Idle.{none_rises};
 
 use crate::mode::Mode;
 use word::bits;
@@ -69,21 +69,10 @@ pub fn none_rises(old: u8, new: u8) -> bool
     new & !old == 0
 }
 
-/// Whether it is known that the mode counts and resets by rises alone: 0 to 5.
-#[tactic(auto, unfolding(crate::specs::Idle::by_rises))]
-pub fn by_rises(mode: Option<Mode>) -> bool
-    ensures { result ≡ by_rises (mode_number mode) }
-{
-    match mode {
-        Some(Mode::Quadrature | Mode::QuadratureReset) | None => false,
-        Some(_) => true,
-    }
-}
-
 /// Whether the inputs reset: in mode 7 input 0 falls with 1 off and 2 on, in 1, 3 and 5 input 2
 /// rises.
 #[tactic(auto, unfolding(crate::specs::Sample::reset_by, crate::specs::Sample::has_reset))]
-pub fn reset_by(mode: Option<Mode>, old: u8, new: u8) -> bool
+pub(crate) fn reset_by(mode: Option<Mode>, old: u8, new: u8) -> bool
     ensures { result ≡ reset_by (mode_number mode) old new }
 {
     match mode {
@@ -97,7 +86,7 @@ pub fn reset_by(mode: Option<Mode>, old: u8, new: u8) -> bool
 
 /// Whether an input inhibits the count: the hold in 1, 3, 5 and 7, and in 7 input 2 as well.
 #[tactic(auto, unfolding(crate::specs::Sample::inhibited, crate::specs::Sample::has_reset))]
-pub fn inhibited(mode: Option<Mode>, new: u8) -> bool
+pub(crate) fn inhibited(mode: Option<Mode>, new: u8) -> bool
     ensures { result ≡ inhibited (mode_number mode) new }
 {
     match mode {
@@ -161,7 +150,8 @@ fn by_phase(old: u8, new: u8) -> Option<Count>
 
 /// What the mode makes of a sample.
 #[tactic(auto, unfolding(crate::specs::Sample::direction))]
-pub fn direction(mode: Option<Mode>, old: u8, new: u8) -> Option<Count>
+#[inline(always)]
+pub(crate) fn direction(mode: Option<Mode>, old: u8, new: u8) -> Option<Count>
     ensures { count_of result ≡ direction (mode_number mode) old new }
 {
     match mode? {

@@ -2,8 +2,9 @@
 ghost use Rattle.std.specs.Prelude.{◌≡◌};
 ghost use Rattle.counter.specs.Modes.{IsMode, mode_number};
 ghost use Rattle.counter.specs.Parts.{mode_of, up_only};
+ghost use Rattle.counter.specs.Idle.{by_rises};
 
-use crate::state::{Counter, Settings};
+use crate::state::Settings;
 
 /// Modes 0 to 7, in this order. Those with a reset have a hold, too.
 #[derive(Clone, Copy, Debug, PartialEq, Eq)]
@@ -49,6 +50,14 @@ impl Settings {
         ensures { mode_number result ≡ mode_of self.now.mode }
     {
         Mode::try_from(self.mode).ok()
+    }
+
+    /// Modes 0 to 5 count and reset by rises alone.
+    #[tactic(auto, unfolding(crate::specs::Idle::by_rises, crate::specs::Parts::mode_of))]
+    pub(crate) fn by_rises(&self) -> bool
+        ensures { result ≡ by_rises (mode_of self.now.mode) }
+    {
+        matches!(self.mode, 0..=5)
     }
 
     /// Modes 0 and 1 count up only.

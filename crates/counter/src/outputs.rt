@@ -10,7 +10,7 @@ pub const OUTPUTS_END: u16 = 0x1000;
 
 /// A preset's word on the outputs in the mask, among bits 0 to 11.
 #[tactic(auto, unfolding(crate::specs::Interrupts::preset_word))]
-pub fn preset_word(omb: u16, word: u16, out: u16) -> u16
+pub(crate) fn preset_word(omb: u16, word: u16, out: u16) -> u16
     ensures { result ≡ preset_word omb word out }
 {
     bits::merge(omb % OUTPUTS_END, word, out)

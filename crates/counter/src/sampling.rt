@@ -3,7 +3,7 @@ ghost use Rattle.std.specs.Prelude.{◌≡◌, pos};
 ghost use Rattle.accumulator.specs.Causes.{cause_number};
 ghost use Rattle.counter.specs.Parts.{mode_of, up_only};
 ghost use Rattle.counter.specs.Sample.{up_flags, down_flags, unmoved, counted_up, counted_down};
-ghost use Rattle.counter.specs.Sample.{counted_by, resets, may_count, count, sampled, sample};
+ghost use Rattle.counter.specs.Sample.{counted_by, resets, may_count, allowed_count, sampled, sample};
 ghost use Rattle.counter.specs.Sample.{count_of, sampled_as, sampled_of};
 ghost use Rattle.counter.specs.Idle.{idle};
 
@@ -57,7 +57,10 @@ fn reset(flags: u32) -> Sampled
     }
 }
 
+// Nearly every event is a sample: its code stands whole in each loop that takes events (`inline`), so that
+// no call is made for it and no state copied.
 impl Counter {
+    #[inline(always)]
     fn unmoved(&self) -> Sampled
         ensures { sampled_of result ≡ unmoved self.now }
     {
@@ -68,6 +71,7 @@ impl Counter {
         }
     }
 
+    #[inline(always)]
     fn counted_up(&self) -> Sampled
         ensures { sampled_of result ≡ counted_up self.now }
     {
@@ -81,6 +85,7 @@ impl Counter {
         }
     }
 
+    #[inline(always)]
     fn counted_down(&self) -> Sampled
         ensures { sampled_of result ≡ counted_down self.now }
     {
@@ -94,6 +99,7 @@ impl Counter {
     }
 
     #[tactic(auto, unfolding(crate::specs::Sample::counted_by))]
+    #[inline(always)]
     fn counted_by(&self, way: Option<Count>) -> Sampled
         ensures { sampled_of result ≡ counted_by (count_of way) self.now }
     {
@@ -106,6 +112,7 @@ impl Counter {
 
     /// Whether the sample resets: settings are loaded, and the inputs reset in their mode.
     #[tactic(auto, unfolding(crate::specs::Sample::resets))]
+    #[inline(always)]
     fn resets(&self, new: u8) -> bool
         ensures { result ≡ resets new self.now }
     {
@@ -114,20 +121,19 @@ impl Counter {
 
     /// Whether the sample may count: CE is 1, and no input inhibits it.
     #[tactic(auto, unfolding(crate::specs::Sample::may_count))]
+    #[inline(always)]
     fn may_count(&self, new: u8) -> bool
         ensures { result ≡ may_count new self.now }
     {
         self.has(Flag::Loaded) & (self.has(Flag::Ce) & !inputs::inhibited(self.active.mode(), new))
     }
 
-    /// The count that the sample makes.
-    #[tactic(auto, unfolding(crate::specs::Sample::count))]
+    /// The count that a sample makes which does not reset.
+    #[inline(always)]
     fn count(&self, new: u8) -> Option<Count>
-        ensures { count_of result ≡ count new self.now }
+        ensures { count_of result ≡ allowed_count new self.now }
     {
-        if self.resets(new) {
-            None
-        } else if self.may_count(new) {
+        if self.may_count(new) {
             inputs::direction(self.active.mode(), self.levels, new)
         } else {
             None
@@ -137,14 +143,16 @@ impl Counter {
     /// Whether it is told at once that nothing comes of the sample but its levels: no input
     /// rises, in a mode that goes by rises alone.
     #[tactic(auto, unfolding(crate::specs::Idle::idle, crate::specs::Idle::by_rises))]
+    #[inline(always)]
     pub fn is_idle(&self, new: u8) -> bool
         ensures { result ≡ idle new self.now }
     {
-        inputs::none_rises(self.levels, new) & inputs::by_rises(self.active.mode())
+        inputs::none_rises(self.levels, new) & self.active.by_rises()
     }
 
     /// What the sample makes of ACC and the flags.
-    #[tactic(auto, unfolding(crate::specs::Sample::sampled))]
+    #[tactic(auto, unfolding(crate::specs::Sample::sampled, crate::specs::Sample::count))]
+    #[inline(always)]
     pub fn sampled(&self, new: u8) -> Sampled
         ensures { sampled_of result ≡ sampled new self.now }
     {

@@ -6,12 +6,11 @@ ghost use Rattle.word.specs.Part.{part};
 ghost use Rattle.word.specs.Same.{same_bytes};
 ghost use Rattle.snapshot.specs.Widths.{snapshot_size};
 
-use std::marker::Model;
-
 use counter::state::Counter;
 use difference::first_difference;
 use replay::machine::Machine;
 use snapshot::{EVENT_SIZE, MOVING_SIZE, SNAPSHOT_SIZE, codec, event, form, split};
+use std::marker::Model;
 
 /// A good state of the counter while events are taken.
 #[derive(Drop)]
@@ -87,6 +86,7 @@ impl Machine for Running {
         Running { snapshot, moving }
     }
 
+    #[inline(always)]
     fn step(&mut self, events: &[u8], at: usize) {
         split::step_over(&mut self.snapshot, &mut self.moving, events, at);
     }

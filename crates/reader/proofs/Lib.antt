@@ -4,5 +4,6 @@ pub mod Laid
 pub mod Heads
 pub mod Split
 pub mod Views
+pub mod Refusals
 pub mod Written
 pub mod RoundTrip

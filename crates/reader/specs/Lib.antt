@@ -2,3 +2,4 @@
 pub mod Formats
 pub mod Layout
 pub mod WellFormed
+pub mod Phases

@@ -8,7 +8,7 @@ ghost use Rattle.reader.specs.Layout.{reader_size, taken_in, header_in};
 ghost use Rattle.reader.specs.WellFormed.{FaultTold, rest_blank, waiting, opened_formed, formed};
 
 use crate::layout::{
-    HEADER, NUMBER, PENDING, PLACE, STATE, TAKEN, edition_in, events_end, header_verdict,
+    HEADER, NUMBER, PENDING, PLACE, SIZE, STATE, TAKEN, edition_in, events_end, header_verdict,
     image_end, is_blank, number,
 };
 use image::edition::MAX_SIZE;
@@ -46,21 +46,21 @@ pub fn trace_refusal(number: u64, place: usize) -> Option<Refusal>
 
 // Whether all but the first so many bytes of the header, of the waiting event and of the snapshot are 0.
 #[tactic(auto, unfolding(crate::specs::WellFormed::rest_blank))]
-fn rest_blank(reader: &[u8], header: usize, pending: usize, state: usize) -> bool
-    requires { (length reader.now ≡ reader_size) × (header ≤ header_size) × (pending ≤ event_size) × (state ≤ max_size) }
-    ensures { result ≡ rest_blank reader.now header pending state }
+fn rest_blank(bytes: &[u8; SIZE], header: usize, pending: usize, state: usize) -> bool
+    requires { (header ≤ header_size) × (pending ≤ event_size) × (state ≤ max_size) }
+    ensures { result ≡ rest_blank bytes.now header pending state }
 {
-    is_blank(reader, HEADER + header, header::SIZE - header)
-        & is_blank(reader, PENDING + pending, EVENT_SIZE - pending)
-        & is_blank(reader, STATE + state, MAX_SIZE - state)
+    is_blank(bytes, HEADER + header, header::SIZE - header)
+        & is_blank(bytes, PENDING + pending, EVENT_SIZE - pending)
+        & is_blank(bytes, STATE + state, MAX_SIZE - state)
 }
 
 // How many bytes of an event wait, of so many taken.
-fn waiting_in(reader: &[u8], taken: usize) -> usize
-    requires { (length reader.now ≡ reader_size) × (header_size ≤ taken) }
-    ensures { (result ≡ waiting (header_in reader.now) taken) × (result ≤ event_size) }
+fn waiting_in(bytes: &[u8; SIZE], taken: usize) -> usize
+    requires { header_size ≤ taken }
+    ensures { (result ≡ waiting (header_in bytes.now) taken) × (result ≤ event_size) }
 {
-    if taken < events_end(reader) {
+    if taken < events_end(bytes) {
         (taken - header::SIZE) % EVENT_SIZE
     } else {
         0
@@ -69,57 +69,55 @@ fn waiting_in(reader: &[u8], taken: usize) -> usize
 
 // Past a header that is not refused.
 #[tactic(auto, unfolding(crate::specs::WellFormed::opened_formed, crate::specs::WellFormed::accepts))]
-fn accepted_formed(reader: &[u8], taken: usize) -> bool
-    requires { (length reader.now ≡ reader_size) × (header_size ≤ taken) × (header_verdict (header_in reader.now) ≡ given tt) }
-    ensures { result ≡ opened_formed (header_in reader.now) reader.now taken }
+fn accepted_formed(bytes: &[u8; SIZE], taken: usize) -> bool
+    requires { (header_size ≤ taken) × (header_verdict (header_in bytes.now) ≡ given tt) }
+    ensures { result ≡ opened_formed (header_in bytes.now) bytes.now taken }
 {
-    let ed = edition_in(reader);
+    let ed = edition_in(bytes);
     let size = edition::size(ed);
-    let waiting = waiting_in(reader, taken);
-    (taken <= image_end(reader))
-        & edition::formed(ed, reader, STATE)
-        & rest_blank(reader, header::SIZE, waiting, size)
+    let waiting = waiting_in(bytes, taken);
+    (taken <= image_end(bytes))
+        & edition::formed(ed, bytes, STATE)
+        & rest_blank(bytes, header::SIZE, waiting, size)
 }
 
 // Past the header.
 #[tactic(auto, unfolding(crate::specs::WellFormed::opened_formed, crate::specs::WellFormed::accepts))]
-fn opened_formed(reader: &[u8], taken: usize) -> bool
-    requires { (length reader.now ≡ reader_size) × (header_size ≤ taken) }
-    ensures { result ≡ opened_formed (header_in reader.now) reader.now taken }
+fn opened_formed(bytes: &[u8; SIZE], taken: usize) -> bool
+    requires { header_size ≤ taken }
+    ensures { result ≡ opened_formed (header_in bytes.now) bytes.now taken }
 {
-    match header_verdict(reader) {
-        Ok(()) => accepted_formed(reader, taken),
+    match header_verdict(bytes) {
+        Ok(()) => accepted_formed(bytes, taken),
         Err(_) => false,
     }
 }
 
 // Where nothing was refused.
-fn trace_formed(reader: &[u8]) -> bool
-    requires { length reader.now ≡ reader_size }
-    ensures { result ≡ cond (ltb (taken_in reader.now) header_size) (rest_blank reader.now (taken_in reader.now) 0 0)
-        (opened_formed (header_in reader.now) reader.now (taken_in reader.now)) }
+fn trace_formed(bytes: &[u8; SIZE]) -> bool
+    ensures { result ≡ cond (ltb (taken_in bytes.now) header_size) (rest_blank bytes.now (taken_in bytes.now) 0 0)
+        (opened_formed (header_in bytes.now) bytes.now (taken_in bytes.now)) }
 {
-    let taken = number(reader, TAKEN);
+    let taken = number(bytes, TAKEN);
     if taken < header::SIZE {
-        rest_blank(reader, taken, 0, 0)
+        rest_blank(bytes, taken, 0, 0)
     } else {
-        opened_formed(reader, taken)
+        opened_formed(bytes, taken)
     }
 }
 
 /// Whether a call may have left these bytes in a reader; others are refused by 9.
 #[tactic(auto, unfolding(crate::specs::WellFormed::formed))]
-pub fn is_formed(reader: &[u8]) -> bool
-    requires { length reader.now ≡ reader_size }
-    ensures { result ≡ formed reader.now }
+pub fn is_formed(bytes: &[u8; SIZE]) -> bool
+    ensures { result ≡ formed bytes.now }
 {
-    let refused = number(reader, NUMBER);
-    let place = number(reader, PLACE);
+    let refused = number(bytes, NUMBER);
+    let place = number(bytes, PLACE);
     if refused == 0 {
-        (place == 0) & trace_formed(reader)
+        (place == 0) & trace_formed(bytes)
     } else {
         trace_refusal(refused as u64, place).is_some()
-            & (number(reader, TAKEN) == 0)
-            & rest_blank(reader, 0, 0, 0)
+            & (number(bytes, TAKEN) == 0)
+            & rest_blank(bytes, 0, 0, 0)
     }
 }

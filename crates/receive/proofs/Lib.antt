@@ -1,5 +1,5 @@
 -- The laws of the calls. `Receivers` has the claim for every image in every cutting.
-pub mod Refusals
+
 pub mod Shown
 pub mod Ends
 pub mod Ready

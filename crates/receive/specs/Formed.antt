@@ -1,10 +1,16 @@
 -- What a call over a well-formed reader leaves in the buffer and the two numbers.
-use Rattle.std.specs.Prelude.{cond, List, [], ◌∷◌, ℕ}
+use Rattle.std.specs.Prelude.{◌≡◌, cond, List, [], ◌∷◌, ℕ, Result, Ok, Err}
 use Rattle.word.specs.Part.{put}
-use Rattle.refusal.specs.Refusals.{changed_if}
+use Rattle.refusal.specs.declared.Refusal.{Refusal}
+use Rattle.refusal.specs.Refusals.{given, refusal, changed_if}
 use Rattle.pieces.specs.Traces.{verdict, shown}
 use Rattle.reader.specs.Formats.{format}
-use Rattle.receive.specs.Calls.{fed_by, ended_by}
+use Rattle.receive.specs.Calls.{lent_verdict, fed_by, ended_by}
+
+-- the reader in the lent bytes, or 9
+abbrev pub Opened : (b buffer : List ℕ) → Result (List ℕ) Refusal → Type 0
+Opened b buffer (Ok r) = (lent_verdict b buffer ≡ given tt) × (r ≡ b)
+Opened b buffer (Err e) = lent_verdict b buffer ≡ refusal e
 
 abbrev pub fed_buffer : (b chunk buffer : List ℕ) → List ℕ
 fed_buffer b chunk buffer =

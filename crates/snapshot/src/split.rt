@@ -153,6 +153,7 @@ pub fn write_snapshot(image: &mut [u8], at: usize, s: &[u8], moving: &[u8])
 
 // Other numbers, and then the cause. The state is read again here: kept from before the sample, it
 // would have to be read whole for every sample.
+#[inline(never)]
 fn raise_over(s: &mut [u8], moving: &mut [u8], next: Moving, cause: Cause)
     requires { (length s.old ≡ snapshot_size) × (length moving.old ≡ moving_size) }
     ensures { HoldsIfGood (raise (number cause) (with_moving next (decode s.old))) s.new moving.new }
@@ -175,6 +176,7 @@ fn read_without_desk(s: &[u8], moving: &[u8]) -> Counter
 
 // A sample; where it raises no cause, the snapshot's bytes are not touched, and where nothing comes
 // of it, only the levels are written.
+#[inline(always)]
 fn sample_over(s: &mut [u8], moving: &mut [u8], new: u8)
     requires { (length s.old ≡ snapshot_size) × (length moving.old ≡ moving_size) }
     ensures { HoldsIfGood (sample new (split_state s.old moving.old)) s.new moving.new }
@@ -197,6 +199,7 @@ fn sample_over(s: &mut [u8], moving: &mut [u8], new: u8)
 }
 
 // Any other event.
+#[inline(never)]
 fn control_over(s: &mut [u8], moving: &mut [u8], kind: u8, sub: u8, v: i32)
     requires { (length s.old ≡ snapshot_size) × (length moving.old ≡ moving_size) }
     ensures { HoldsIfGood (step_control kind sub v (split_state s.old moving.old)) s.new moving.new }
@@ -207,6 +210,7 @@ fn control_over(s: &mut [u8], moving: &mut [u8], kind: u8, sub: u8, v: i32)
 }
 
 /// Takes the event from byte at.
+#[inline(always)]
 pub fn step_over(s: &mut [u8], moving: &mut [u8], events: &[u8], at: usize)
     requires { (length s.old ≡ snapshot_size) × (length moving.old ≡ moving_size) × (at + event_size ≤ length events.now) }
     ensures { HoldsIfGood (step_event (part events.now at event_size) (split_state s.old moving.old))

@@ -8,4 +8,4 @@ use Rattle.receive.proofs.new.Goals as goal
 
 pub returns : goal.returns
 unfolding laid_phase
-returns c = c.clear.ensures ∙ put-whole c.args.reader.now (zeros reader_size) c.requires ∙ sym laid-zeros
+returns c = c.clear.ensures ∙ put-whole c.args.reader.now (zeros reader_size) c.told-reader ∙ sym laid-zeros

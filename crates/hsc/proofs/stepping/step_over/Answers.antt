@@ -4,10 +4,10 @@ use mathlib.Core.List.{List}
 use Prim.Native.Nat.{ℕ}
 use lib.ListN.{length}
 use Rattle.word.specs.Part.{part, put}
-use Rattle.word.proofs.Part.{part-whole, put-whole, length-part, bytes-part}
+use Rattle.word.proofs.Part.{part-whole, put-whole, bytes-part}
 use Rattle.counter.specs.WellFormed.{Good}
 use Rattle.snapshot.specs.Widths.{snapshot_size, event_size}
-use Rattle.snapshot.specs.Snapshots.{encode, decode}
+use Rattle.snapshot.specs.Snapshots.{encode}
 use Rattle.snapshot.specs.EventBytes.{step_event}
 use Rattle.snapshot.specs.Split.{split_state}
 use Rattle.snapshot.proofs.RoundTrip.{length-encode, good-decode}
@@ -28,6 +28,7 @@ returns c =
     let long = c.step_over.auto.s ∙ c.requires.snapshot_formed.0 in
     let loaded = good-decode c.args.snapshot.now (λ i. (c.slice_known-1.given i).fits) c.requires.snapshot_formed.0 c.requires.snapshot_formed.1 in
     let bytes = bytes-part event 0 event_size (λ i. (c.type_inv.event i).fits) in
-    let good = event-good _ (part event 0 event_size) (subst Good (sym c.load_moving.ensures) loaded) (ap length whole ∙ c.requires.event_whole) bytes in
+    let state = split_state c.args.snapshot.now c.load_moving.new.moving in
+    let good = event-good state (part event 0 event_size) (subst Good (sym c.load_moving.ensures) loaded) (ap length whole ∙ c.requires.event_whole) bytes in
     whole-over _ _ long c.write_over.ensures
-    ∙ ap encode (c.step_over.ensures good ∙ ap (λ (e : List ℕ). step_event e _) whole ∙ ap (step_event event) c.load_moving.ensures)
+    ∙ ap encode (c.step_over.ensures good ∙ ap (λ (e : List ℕ). step_event e state) whole ∙ ap (step_event event) c.load_moving.ensures)

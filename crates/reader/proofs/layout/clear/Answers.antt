@@ -10,4 +10,4 @@ pub returns : goal.returns
 returns c =
     let a = c.args in
     c.copy_over.ensures
-    ∙ ap (put a.reader.now a.at) (front-zeros (a.n - 0) a.n 116 (omega arith) (omega (arith, c.requires)))
+    ∙ ap (put a.bytes.now a.at) (front-zeros (a.n - 0) a.n 116 (omega arith) (omega (arith, c.requires)))

@@ -11,6 +11,6 @@ pub returns : goal.returns
 returns c =
     let a = c.args in (
       c.number.ensures.0
-          ∙ ap of_bytes (sym (part-part a.reader.now header_place header_size a.at 4 (omega (arith, c.requires)) c.requires.1)),
+          ∙ ap of_bytes (sym (part-part a.bytes.now header_place header_size a.at 4 (omega (arith, c.requires)) c.requires)),
       c.number.ensures.1,
     )

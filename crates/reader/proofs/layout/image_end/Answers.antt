@@ -25,9 +25,9 @@ small e k size few h =
 pub nonzero_div-count : goal.nonzero_div-count
 nonzero_div-count c =
     let h : List ℕ =
-    header_in c.args.reader.now in
+    header_in c.args.bytes.now in
     let headed : Headed h =
-    header-passed h c.requires.1 in
+    header-passed h c.requires in
     omega (arith, c.header_number-spacing.ensures.0, headed.limits.spaced)
 
 pub returns : goal.returns
@@ -37,12 +37,12 @@ returns c =
     let k : ℕ =
     c.header_number-spacing.result in
     let h : List ℕ =
-    header_in c.args.reader.now in
+    header_in c.args.bytes.now in
     let same : ends e k c.size-size.result ≡ image_end h =
     let size = c.size-size.ensures.0 ∙ ap (λ (ed : Edition). (system ed).size) c.edition_in.ensures in
     λ i. ends (c.header_number-count.ensures.0 i) (c.header_number-spacing.ensures.0 i) (size i) in
     let headed : Headed h =
-    header-passed h c.requires.1 in
+    header-passed h c.requires in
     let few : e ≤ max_events =
     omega (arith, c.header_number-count.ensures.0, headed.limits.few) in
     let fits : ends e k c.size-size.result < 2 ^ 32 =

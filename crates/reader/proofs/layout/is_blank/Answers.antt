@@ -15,4 +15,4 @@ returns c =
     let a = c.args in
     let long : a.at + a.n - a.at ≡ a.n = omega arith in
     c.same.ensures
-    ∙ ap₂ same_bytes (ap (λ (n : ℕ). take n (drop a.at a.reader.now)) long) (front-zeros (a.n - 0) a.n 116 (omega arith) (omega (arith, c.requires)))
+    ∙ ap₂ same_bytes (ap (λ (n : ℕ). take n (drop a.at a.bytes.now)) long) (front-zeros (a.n - 0) a.n 116 (omega arith) (omega (arith, c.requires)))

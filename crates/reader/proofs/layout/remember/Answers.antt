@@ -14,9 +14,7 @@ use Rattle.reader.proofs.Laid.{laid-refused}
 use Rattle.reader.proofs.layout.remember.Goals as goal
 
 pub write_number-requires : goal.write_number-requires
-write_number-requires c =
-    let size = c.requires.0 in
-    (omega (arith, c.clear.auto.reader, size), omega (arith, c.number.ensures, (number-range c.args.refusal).1))
+write_number-requires c = (omega arith, omega (arith, c.number.ensures, (number-range c.args.refusal).1))
 
 pub returns : goal.returns
 returns c =
@@ -24,6 +22,6 @@ returns c =
     c.write_number-2.ensures
     ∙ ap₂ (λ (l : List ℕ) (p : ℕ). put l 44 (to_bytes 4 p))
     (c.write_number.ensures
-    ∙ ap₂ (λ (l : List ℕ) (n : ℕ). put l 40 (to_bytes 4 n)) (c.clear.ensures ∙ put-whole c.args.reader.now (zeros reader_size) c.requires.0) c.number.ensures)
+    ∙ ap₂ (λ (l : List ℕ) (n : ℕ). put l 40 (to_bytes 4 n)) (c.clear.ensures ∙ put-whole c.args.bytes.now (zeros reader_size) c.told-bytes) c.number.ensures)
     c.place.ensures
     ∙ laid-refused (number_of refusal) (place_of refusal)
