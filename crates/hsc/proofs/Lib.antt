@@ -3,5 +3,4 @@ pub mod Status
 pub mod Drawn
 mod Widened
 mod Whole
-mod Rows
 mod Done
