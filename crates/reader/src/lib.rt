@@ -37,8 +37,11 @@ impl Model for Reader {
     ghost invariant = { λ r. Held r.bytes };
 }
 
+// Inlined, as what opens a reader is: else its 116 bytes are moved at each return, and a chunk of 12
+// bytes takes a third longer.
 impl Reader {
     /// The reader in these bytes; `None` where no call may have left them.
+    #[inline(always)]
     pub fn open(bytes: &[u8; SIZE]) -> Option<Reader>
         ensures { result ≡ cond (formed bytes.now) (Some bytes.now) None }
     {
@@ -49,6 +52,7 @@ impl Reader {
     }
 
     /// What it waits for.
+    #[inline(always)]
     pub fn phase(&self) -> Phase
         ensures { PhaseIs self.now result }
     {
@@ -67,6 +71,7 @@ impl Reader {
     }
 
     /// The remembered refusal as an `Err`, or `Ok` where there is none.
+    #[inline(always)]
     pub fn refusal(&self) -> Result<(), Refusal>
         ensures answer { answer_of result ≡ verdict format (reader_in self.now).phase }
         ensures held { Held self.now }

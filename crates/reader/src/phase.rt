@@ -1,7 +1,7 @@
 // What a reader waits for.
 use refusal::Refusal;
 
-/// What a reader waits for, with the number of the image's bytes that it took; or the refusal that it
+/// What a reader waits for, with how many of the image's bytes it took; or the refusal that it
 /// remembers.
 #[derive(Clone, Copy, Debug, PartialEq, Eq)]
 pub enum Phase {

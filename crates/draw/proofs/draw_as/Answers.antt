@@ -1,6 +1,5 @@
 -- `draw::draw_as` meets its contract: the state that the snapshot holds is loaded, and that after all events is written over it.
 use mathlib.Core.Path.{sym, ap, ◌∙◌}
-use native.Mathlib.Omega.{arith}
 use lib.ListN.{length}
 use Rattle.word.proofs.Part.{part-whole, put-whole}
 use Rattle.replay.specs.Events.{run}

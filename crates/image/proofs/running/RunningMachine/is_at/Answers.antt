@@ -1,8 +1,7 @@
 -- `is_at` of a running counter meets the contract of a machine: the bytes that are compared are the state's snapshot.
-use mathlib.Core.Path.{◌≡◌, sym, ap, ap₂, ◌∙◌}
+use mathlib.Core.Path.{◌≡◌, sym, ap, ◌∙◌}
 use mathlib.Core.List.{List}
 use Prim.Native.Nat.{ℕ}
-use native.Mathlib.Omega.{arith}
 use lib.ListN.{length}
 use Rattle.word.specs.Part.{part}
 use Rattle.word.specs.Same.{same_bytes}

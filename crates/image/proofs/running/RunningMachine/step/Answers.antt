@@ -1,6 +1,6 @@
 -- `step` of a running counter meets the contract of a machine: any event of 12 bytes keeps a good state good, so the bytes hold the state
 -- after it.
-use mathlib.Core.Path.{◌≡◌, sym, ap, ◌∙◌, subst}
+use mathlib.Core.Path.{sym, ap, ◌∙◌, subst}
 use Rattle.word.specs.Part.{part}
 use Rattle.word.proofs.Part.{length-part, bytes-part}
 use Rattle.counter.specs.WellFormed.{Good}
