@@ -8,6 +8,8 @@ pub mod cause;
 
 use cause::Cause;
 
+// `up` and `down` take plain numbers, as `up-overflow`, `up-preset` and the two of `down` do.
+
 /// ACC after a count, and the cause that the count raises, if there is one.
 #[derive(Clone, Copy, Debug, PartialEq, Eq)]
 pub struct Counted {

@@ -35,6 +35,7 @@ pub fn trace_verdict(t: Trace, trace: &[u8], count: usize) -> Result<(), Refusal
     requires { (count ≤ events_in trace.now) × (events_verdict base 5 trace.now 0 count ≡ given tt) }
     ensures { answer_of result ≡ trace_verdict t trace.now }
 {
+    // The base edition's events: no header tells another.
     let left = trace.len() / EVENT_SIZE - count;
     let i = first_illegal(Edition::Base, trace, count * EVENT_SIZE, left);
     if i < left {

@@ -13,6 +13,7 @@ pub mod LoadEffects
 pub mod Loads
 pub mod Masked
 pub mod Merging
+pub mod Modes
 pub mod Queue
 pub mod Raising
 pub mod Ranges

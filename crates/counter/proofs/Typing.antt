@@ -5,6 +5,8 @@ use mir.Val.{SFits}
 use denote.Struct.Declared.{fields}
 use denote.Struct.Struct.{AreAll}
 use denote.RattleType.{Valss}
+use Rattle.accumulator.specs.declared.Counted.{Counted}
+use Rattle.accumulator.specs.contracts.Counted as counted
 use Rattle.counter.specs.declared.state.Settings.{Settings}
 use Rattle.counter.specs.declared.state.Counter.{Counter}
 use Rattle.counter.specs.declared.sampling.Sampled.{Sampled}
@@ -35,6 +37,9 @@ counter-typed c vss g =
       acc = record { sfits = g.1.1.0.1 };
       waiting = search rules;
     }
+
+pub counted-typed : (r : Counted) (vss : Valss (fields counted.the_type)) → AreAll (fields counted.the_type) ((counted.the_type).to r) vss → SFits w32 r.acc
+counted-typed r vss g = record { sfits = g.0.1 }
 
 pub sampled-typed : (r : Sampled) (vss : Valss (fields sampled.the_type)) → AreAll (fields sampled.the_type) ((sampled.the_type).to r) vss → SFits w32 r.acc
 sampled-typed r vss g = record { sfits = g.0.1 }

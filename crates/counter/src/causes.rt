@@ -78,7 +78,7 @@ impl Counter {
     fn interrupt(&mut self, cause: Cause)
         ensures { self.new ≡ interrupt (number cause) self.old }
     {
-        match self.desk.post(cause) {
+        match self.desk.post(u8::from(cause)) {
             Outcome::Starts => self.show(cause),
             Outcome::Waits => {}
             Outcome::Lost => self.set(Flag::Uil),

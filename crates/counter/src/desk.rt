@@ -1,10 +1,7 @@
 //! The desk: the running cause and the waiting ones.
 ghost use Rattle.std.specs.Prelude.{◌≡◌, ◌<◌};
-ghost use Rattle.accumulator.specs.Causes.{number};
 ghost use Rattle.counter.specs.Desk.{queued_of, empty, waits, starting, waiting, resting};
 ghost use Rattle.counter.specs.Desk.{advancing, post, finish, next_of};
-
-use accumulator::cause::Cause;
 
 /// The running cause and the waiting ones, by number, 0 for none. The waiting ones stand at the
 /// front of `waiting`, `queued` of them, in order of arrival.
@@ -25,6 +22,7 @@ pub enum Outcome {
 }
 
 /// How many causes wait, by the two places.
+// By number, as the desk's places are.
 #[tactic(auto, unfolding(crate::specs::Desk::queued_of))]
 pub fn queued_of(first: u8, second: u8) -> u8
     ensures { result ≡ queued_of first second }
@@ -87,13 +85,12 @@ impl Desk {
         self.queued -= 1;
     }
 
-    /// Takes a cause that comes: it waits already, starts, waits or is lost.
+    /// Takes the cause that has this number: it waits already, starts, waits or is lost.
     #[tactic(auto, unfolding(crate::specs::Desk::post))]
-    pub(crate) fn post(&mut self, cause: Cause) -> Outcome
-        ensures outcome { result ≡ (post (number cause) self.old).outcome }
-        ensures desk { self.new ≡ (post (number cause) self.old).desk }
+    pub fn post(&mut self, number: u8) -> Outcome
+        ensures outcome { result ≡ (post number self.old).outcome }
+        ensures desk { self.new ≡ (post number self.old).desk }
     {
-        let number = u8::from(cause);
         if waits(number, self.waiting[0], self.waiting[1]) {
             return Outcome::Waits;
         }

@@ -42,14 +42,14 @@ impl Input {
 }
 
 /// Whether the input is on.
-pub fn is_on(levels: u8, input: Input) -> bool
+pub(crate) fn is_on(levels: u8, input: Input) -> bool
     ensures { result ≡ bit levels (number input) }
 {
     bits::has(u32::from(levels), input.number())
 }
 
 /// Whether the input goes from off to on.
-pub fn rises(old: u8, new: u8, input: Input) -> bool
+pub(crate) fn rises(old: u8, new: u8, input: Input) -> bool
     ensures { result ≡ rises old new (number input) }
 {
     !is_on(old, input) & is_on(new, input)

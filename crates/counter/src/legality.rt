@@ -11,6 +11,7 @@ fn is_levels(v: i32) -> bool
 }
 
 /// Whether the event is legal.
+// By its numbers, as the events of `step-good` and `legal-stamp` are.
 pub fn legal(kind: u8, sub: u8, v: i32) -> bool
     ensures { result ≡ legal kind sub v }
 {

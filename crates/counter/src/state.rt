@@ -9,6 +9,7 @@ use crate::flag::Flag;
 use word::bits;
 
 /// What a load copies from staged to active, in the snapshot's order.
+// MOD is a number, and not a `Mode`: a state holds any number of a snapshot (`encode-decode`).
 #[derive(Clone, Copy, Debug, PartialEq, Eq, Default)]
 pub struct Settings {
     pub pfn: i16,
@@ -23,6 +24,8 @@ pub struct Settings {
 }
 
 /// All that a counter is between two events.
+// ER is a number, and not an `Option<Rule>`: a state holds any number of a snapshot
+// (`encode-decode`).
 #[derive(Clone, Copy, Debug, PartialEq, Eq)]
 pub struct Counter {
     pub staged: Settings,

@@ -14,6 +14,7 @@ use crate::outputs;
 use crate::state::Counter;
 
 /// The levels that a sample's value gives.
+// No `TryFrom`: it takes the low four bits of any number.
 pub fn levels_of(v: i32) -> u8
     ensures { result ≡ levels_of v }
 {
@@ -119,6 +120,7 @@ impl Counter {
     }
 
     /// Takes an event that is no legal sample; one that is not legal changes nothing.
+    // By its numbers, as `step-good` has an event.
     #[tactic(auto, unfolding(crate::specs::Events::step_control))]
     pub fn step_control(&mut self, kind: u8, sub: u8, v: i32)
         ensures { self.new ≡ step_control kind sub v self.old }
@@ -129,6 +131,7 @@ impl Counter {
     }
 
     /// Takes an event; one that is not legal changes nothing.
+    // By its numbers, as `step-good` has an event.
     #[tactic(auto, unfolding(crate::specs::Events::step))]
     pub fn step(&mut self, kind: u8, sub: u8, v: i32)
         ensures { self.new ≡ step kind sub v self.old }

@@ -3,4 +3,5 @@ pub mod Status
 pub mod Drawn
 mod Widened
 mod Whole
+mod Written
 mod Done

@@ -6,7 +6,7 @@ use refusal::Refusal;
 use snapshot::EVENT_SIZE;
 use snapshot::event::legal_event;
 
-// 1 where the event is legal, 0 where it is not, 9 where it is not 12 bytes.
+/// 1 where the event is legal, 0 where it is not, 9 where it is not 12 bytes: C's numbers.
 pub fn hsc_event_check(event: &[u8]) -> u32
     ensures { result ≡ check_answer event.now }
 {

@@ -15,5 +15,6 @@ pub fn hsc_draw(snapshot: &mut [u8], events: &[u8], row: &mut [i32]) -> u64
     ensures snapshot { snapshot.new ≡ draw_snapshot Base snapshot.old events.now (length row.old) }
     ensures row { row.new ≡ draw_row Base snapshot.old events.now row.old }
 {
+    // The base edition's: no header tells another.
     status_of(draw(Edition::Base, snapshot, events, row))
 }

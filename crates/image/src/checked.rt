@@ -11,6 +11,7 @@ use crate::{edition, header};
 use refusal::Refusal;
 
 /// An image whose header refusals 1 to 3 leave.
+// Nothing prints or compares one.
 #[derive(Clone, Copy)]
 pub struct Headed<'a> {
     image: &'a [u8],
@@ -77,6 +78,7 @@ impl<'a> Headed<'a> {
 }
 
 /// An image that refusals 1 to 5 leave.
+// Nothing prints or compares one.
 #[derive(Clone, Copy)]
 pub struct Checked<'a> {
     headed: Headed<'a>,

@@ -11,6 +11,8 @@ use replay::rows;
 use snapshot::SNAPSHOT_SIZE;
 
 /// The editions, by the header's sixth number.
+// An enum and a `match` in each call: the header tells the edition when the program runs, and below
+// that the machine is a type.
 #[derive(Clone, Copy, Debug, PartialEq, Eq)]
 pub enum Edition {
     Base,
@@ -20,6 +22,7 @@ pub enum Edition {
 pub const MAX_SIZE: usize = SNAPSHOT_SIZE;
 
 /// The edition of a header whose sixth number is this.
+// No `From`: any number tells one today, and refusal 2 says which may stand there.
 pub fn edition_at(sixth: usize) -> Edition
     ensures { result ≡ edition_at sixth }
 {

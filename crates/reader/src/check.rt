@@ -67,7 +67,7 @@ fn waiting_in(bytes: &[u8; SIZE], taken: usize) -> usize
     }
 }
 
-// Past a header that is not refused.
+// Past a header that is not refused. There is no `Reader` yet: this is what its invariant is tested by.
 #[tactic(auto, unfolding(crate::specs::WellFormed::opened_formed, crate::specs::WellFormed::accepts))]
 fn accepted_formed(bytes: &[u8; SIZE], taken: usize) -> bool
     requires { (header_size ≤ taken) × (header_verdict (header_in bytes.now) ≡ given tt) }

@@ -95,13 +95,15 @@ pub fn remember(bytes: &mut [u8; SIZE], refusal: Refusal)
     write_number(bytes, PLACE, refusal.place() as usize);
 }
 
-// Where the events end, and where the image does.
+/// The byte of the image at which its events end.
 pub fn events_end(bytes: &[u8; SIZE]) -> usize
     ensures { result ≡ events_end (header_in bytes.now) }
 {
     header::event_place(header_number(bytes, header::EVENT_COUNT))
 }
 
+/// The byte at which the image ends, of a header that is not refused.
+// Over the bytes: the phase has told that it is not refused.
 pub fn image_end(bytes: &[u8; SIZE]) -> usize
     requires { header_verdict (header_in bytes.now) ≡ given tt }
     ensures { (result ≡ image_end (header_in bytes.now)) × (result < 2 ^ 32) }

@@ -5,7 +5,7 @@ ghost use Rattle.report.specs.Line.{replay_line, refusal_line};
 use crate::text::Text;
 
 // No `Display`: what it ensures holds where the write is `Ok`, and `office::answer` promises the
-// line of every image.
+// line of every image. The pieces are bytes, and the numbers six, as the line's definition has them.
 
 /// The line of a replay.
 pub fn replay_line(events: u64, snapshots: u64, acc: i32, out: u16, er: u16, flags: u32) -> Text

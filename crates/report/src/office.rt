@@ -40,6 +40,7 @@ fn accepted_line(image: &[u8], last: &[u8]) -> Text
 fn office_line(image: &mut [u8]) -> Text
     ensures { result ≡ office_line image.old }
 {
+    // `replay` writes the final snapshot into what it is lent, as its clause `last` says.
     let mut last = [0u8; MAX_SIZE];
     match replay(image, &mut last) {
         Ok(()) => accepted_line(image, &last),
@@ -49,6 +50,7 @@ fn office_line(image: &mut [u8]) -> Text
 
 /// Replays the image and puts its line at the front of a buffer of 160 bytes; answers the line's
 /// length.
+// A lent buffer, and not a `Text`: `answer-met` and `office-line` are of these clauses.
 pub fn answer(image: &mut [u8], line: &mut [u8]) -> usize
     requires { 160 ≤ length line.old }
     ensures line { take result line.new ≡ office_line image.old }

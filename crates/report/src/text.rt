@@ -50,6 +50,7 @@ impl Text {
         ensures text { self.new ≡ self.old ++ decimal n }
         ensures grown { length self.new ≤ length self.old + 20 }
     {
+        // No heap: the digits are written into a lent array.
         let mut digits = [0u8; 20];
         let k = io::decimal(n, &mut digits);
         self.push(&digits[..k]);
@@ -77,6 +78,7 @@ impl Text {
         ensures text { self.new ≡ self.old ++ hexadecimal width n }
         ensures grown { length self.new ≡ length self.old + width }
     {
+        // No heap: the digits are written into a lent array.
         let mut digits = [0u8; 16];
         let k = io::hex(n, width, &mut digits);
         self.push(&digits[..k]);

@@ -9,7 +9,8 @@ use counter::legality;
 use word::bytes::LittleEndian;
 
 /// What an event asks for; its stamp is left out.
-#[derive(Clone, Copy)]
+// Numbers, and not counter's `Event`: it may be one that is not legal (`legal-stamp`, `step-stamp`).
+#[derive(Clone, Copy, Debug, PartialEq, Eq)]
 pub struct Event {
     pub kind: u8,
     pub sub: u8,

@@ -26,7 +26,7 @@ use word::bytes::LittleEndian;
 use word::parts::{copy_over, copy_part};
 
 /// The numbers beside a snapshot.
-#[derive(Clone, Copy)]
+#[derive(Clone, Copy, Debug, PartialEq, Eq)]
 struct Moving {
     acc: i32,
     flags: u32,
@@ -198,7 +198,7 @@ fn sample_over(s: &mut [u8], moving: &mut [u8], new: u8)
     }
 }
 
-// Any other event.
+// Any other event, by its numbers, as `step_control` takes it.
 #[inline(never)]
 fn control_over(s: &mut [u8], moving: &mut [u8], kind: u8, sub: u8, v: i32)
     requires { (length s.old ≡ snapshot_size) × (length moving.old ≡ moving_size) }

@@ -6,6 +6,7 @@ use counter::rules::Rule;
 use counter::state::{Counter, Settings};
 use std::io;
 
+/// A row of the bench table.
 pub fn settings(pfn: i16, mode: i16, hip: i32, lop: i32, ovf: i32, unf: i32) -> Settings {
     Settings {
         pfn,

@@ -27,15 +27,14 @@ fn before(mode: i16, ce: bool, levels: u8) -> Counter {
 }
 
 // The counter after a sample.
-fn after(c: Counter, new: u8) -> Counter {
-    let mut d = c;
-    d.step(1, 0, new as i32);
-    d
+fn after(mut c: Counter, new: u8) -> Counter {
+    c.step(1, 0, new as i32);
+    c
 }
 
 // What a sample gave in one mode, from inputs that stay but for input 0: ACC, DIR, and whether both
 // are as expected there and from inputs that all change.
-#[derive(Clone, Copy)]
+#[derive(Clone, Copy, Debug, PartialEq, Eq)]
 struct Fall {
     acc: i32,
     dir: bool,

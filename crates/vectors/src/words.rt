@@ -53,7 +53,7 @@ fn row(rt: &impl Print) -> io::Result<()> {
     println!(rt; " {}", verdict(same && written))
 }
 
-// A word with bit n set, with it cleared, and whether it has it.
+// A word with bit n set, with it cleared, and whether it has it. What is asked of n is what `bits` asks.
 fn one_bit(rt: &impl Print, w: u32, n: u32, set: u32, cleared: u32, has: bool) -> io::Result<()>
     requires { n < 32 }
 {

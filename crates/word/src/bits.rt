@@ -2,7 +2,9 @@
 ghost use Rattle.std.specs.Prelude.{◌≡◌, ◌<◌};
 ghost use Rattle.word.specs.Masks.{bit, set_bit, clear_bit, merge};
 
-// Whether bit n of w is 1.
+// That n is below 32 is asked: what n names is the caller's, as `Flag::bit` promises it.
+
+/// Whether bit n of w is 1.
 #[tactic(auto, unfolding(crate::specs::Masks::bit))]
 pub fn has(w: u32, n: u32) -> bool
     requires { n < 32 }
@@ -11,7 +13,7 @@ pub fn has(w: u32, n: u32) -> bool
     (w >> n) % 2 == 1
 }
 
-// w with bit n at 1.
+/// w with bit n at 1.
 #[tactic(auto, unfolding(crate::specs::Masks::set_bit))]
 pub fn set(w: u32, n: u32) -> u32
     requires { n < 32 }
@@ -20,7 +22,7 @@ pub fn set(w: u32, n: u32) -> u32
     w | (1 << n)
 }
 
-// w with bit n at 0.
+/// w with bit n at 0.
 #[tactic(auto, unfolding(crate::specs::Masks::clear_bit))]
 pub fn clear(w: u32, n: u32) -> u32
     requires { n < 32 }
@@ -29,7 +31,7 @@ pub fn clear(w: u32, n: u32) -> u32
     w & !(1 << n)
 }
 
-// The bits of new where the mask has a 1, those of old where it has a 0.
+/// The bits of new where the mask has a 1, those of old where it has a 0.
 #[tactic(auto, unfolding(crate::specs::Masks::merge))]
 pub fn merge(mask: u16, new: u16, old: u16) -> u16
     ensures { result ≡ merge 16 mask new old }

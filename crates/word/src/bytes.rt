@@ -1,4 +1,5 @@
-//! Little-endian numbers in a lent slice: read or written at a byte offset.
+//! Little-endian numbers in a lent slice: read or written at a byte offset. A slice and a place in
+//! it, and not the part alone: contracts say `number_at` and `put` of the whole.
 ghost use Rattle.std.specs.Prelude.{◌≡◌, ℕ, ◌+◌, ◌<◌, ◌^◌, ◌≤◌, length};
 ghost use Rattle.std.specs.Int.{w8, w16, w32, w64};
 ghost use Rattle.std.proofs.Common.{Fits, SFits};
