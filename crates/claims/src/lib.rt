@@ -1,2 +1,2 @@
-// No code: what the other crates prove, stated again for a reader.
+//! No code: what the other crates prove, stated again for a reader.
 #![tactic(auto)]

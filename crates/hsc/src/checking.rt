@@ -1,4 +1,4 @@
-// The call that checks an event.
+//! The call that checks an event.
 ghost use Rattle.std.specs.Prelude.{◌≡◌};
 ghost use Rattle.hsc.specs.Calls.{check_answer};
 

@@ -1,10 +1,10 @@
-// The 32 numbers of a reading: the state, and the bits shown but not stored.
+//! The 32 numbers of a reading: the state, and the bits shown but not stored.
 ghost use Rattle.std.specs.Prelude.{◌≡◌};
 ghost use Rattle.hsc.specs.Fields.{fields_of};
 
 use counter::state::Counter;
 
-// Every number of the state, in the layout's order.
+/// Every number of the state, in the layout's order.
 #[tactic(auto, unfolding(crate::specs::Fields::fields_of))]
 pub fn fill(c: Counter, fields: &mut [i32; 32])
     ensures { fields.new ≡ fields_of c }

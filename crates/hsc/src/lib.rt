@@ -1,4 +1,4 @@
-// The calls of the C surface, with numbers and lent buffers; `hsc_c` gives them their symbols. Document 01, "Trace image", has the refusals.
+//! The calls of the C surface, with numbers and lent buffers; `hsc_c` gives them their symbols. Document 01, "Trace image", has the refusals.
 #![tactic(auto)]
 
 pub mod checking;

@@ -1,4 +1,4 @@
-// The call that reads a snapshot.
+//! The call that reads a snapshot.
 ghost use Rattle.std.specs.Prelude.{◌≡◌};
 ghost use Rattle.refusal.specs.Refusals.{answer_of};
 ghost use Rattle.hsc.specs.Calls.{read_verdict, read_answer, read_after};
@@ -22,7 +22,7 @@ fn read_verdict(snapshot: &[u8]) -> Result<(), Refusal>
     Ok(())
 }
 
-// Writes the state and the bits shown but not stored into fields. A refusal leaves them as they were.
+/// Writes the state and the bits shown but not stored into fields. A refusal leaves them as they were.
 pub fn hsc_read(snapshot: &[u8], fields: &mut [i32; 32]) -> u64
     ensures status { result ≡ read_answer snapshot.now }
     ensures fields { fields.new ≡ read_after snapshot.now fields.old }

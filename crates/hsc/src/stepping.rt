@@ -1,4 +1,4 @@
-// The call that steps a snapshot by one event.
+//! The call that steps a snapshot by one event.
 ghost use Rattle.std.specs.Prelude.{◌≡◌, true, length};
 ghost use Rattle.snapshot.specs.Widths.{snapshot_size, event_size};
 ghost use Rattle.snapshot.specs.Snapshots.{encode, decode};
@@ -52,7 +52,7 @@ fn step_over(snapshot: &mut [u8], event: &[u8])
     split::write_over(snapshot, 0, &moving);
 }
 
-// Takes the event: the next snapshot stands over the lent one. A refusal leaves it as it was.
+/// Takes the event: the next snapshot stands over the lent one. A refusal leaves it as it was.
 pub fn hsc_step(snapshot: &mut [u8], event: &[u8]) -> u64
     ensures status { result ≡ step_answer snapshot.old event.now }
     ensures snapshot { snapshot.new ≡ step_after snapshot.old event.now }

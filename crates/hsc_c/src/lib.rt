@@ -1,4 +1,4 @@
-// The C surface: the archive's symbols, each one call of `hsc` with its clauses.
+//! The C surface: the archive's symbols, each one call of `hsc` with its clauses.
 #![tactic(auto)]
 
 ghost use Rattle.std.specs.Prelude.{◌≡◌, length};
@@ -14,7 +14,7 @@ ghost use Rattle.receive.specs.Calls.{new_reader, feed_reader, feed_buffer, feed
 
 use receive::READER_SIZE;
 
-// The number that the header of the same version has.
+/// The number that the header of the same version has.
 #[unsafe(no_mangle)]
 pub extern "C" fn hsc_version() -> u32
     ensures { result ≡ version }
@@ -22,7 +22,7 @@ pub extern "C" fn hsc_version() -> u32
     hsc::version::hsc_version()
 }
 
-// 1 where the event is legal, 0 where it is not, 9 where it is not 12 bytes.
+/// 1 where the event is legal, 0 where it is not, 9 where it is not 12 bytes.
 #[unsafe(no_mangle)]
 pub extern "C" fn hsc_event_check(event: &[u8]) -> u32
     ensures { result ≡ check_answer event.now }
@@ -30,7 +30,7 @@ pub extern "C" fn hsc_event_check(event: &[u8]) -> u32
     hsc::checking::hsc_event_check(event)
 }
 
-// Takes the event: the next snapshot stands over the lent one. A refusal leaves it as it was.
+/// Takes the event: the next snapshot stands over the lent one. A refusal leaves it as it was.
 #[unsafe(no_mangle)]
 pub extern "C" fn hsc_step(snapshot: &mut [u8], event: &[u8]) -> u64
     ensures status { result ≡ step_answer snapshot.old event.now }
@@ -39,7 +39,7 @@ pub extern "C" fn hsc_step(snapshot: &mut [u8], event: &[u8]) -> u64
     hsc::stepping::hsc_step(snapshot, event)
 }
 
-// Writes the state and the bits shown but not stored into fields. A refusal leaves them as they were.
+/// Writes the state and the bits shown but not stored into fields. A refusal leaves them as they were.
 #[unsafe(no_mangle)]
 pub extern "C" fn hsc_read(snapshot: &[u8], fields: &mut [i32; 32]) -> u64
     ensures status { result ≡ read_answer snapshot.now }
@@ -48,7 +48,7 @@ pub extern "C" fn hsc_read(snapshot: &[u8], fields: &mut [i32; 32]) -> u64
     hsc::reading::hsc_read(snapshot, fields)
 }
 
-// Writes every snapshot anew, and the final state's into last. A refusal leaves both as they were.
+/// Writes every snapshot anew, and the final state's into last. A refusal leaves both as they were.
 #[unsafe(no_mangle)]
 pub extern "C" fn hsc_replay(image: &mut [u8], last: &mut [u8; 68]) -> u64
     ensures status { result ≡ replay_status image.old }
@@ -58,8 +58,8 @@ pub extern "C" fn hsc_replay(image: &mut [u8], last: &mut [u8; 68]) -> u64
     hsc::replaying::hsc_replay(image, last)
 }
 
-// Copies the patch over the events from place first on and mends the snapshots: span holds the first compared, the stop and the events run. A
-// refusal leaves image and span as they were.
+/// Copies the patch over the events from place first on and mends the snapshots: span holds the first compared, the stop and the events run. A
+/// refusal leaves image and span as they were.
 #[unsafe(no_mangle)]
 pub extern "C" fn hsc_mend(image: &mut [u8], first: u64, patch: &[u8], span: &mut [u32; 3]) -> u64
     ensures status { result ≡ mend_status image.old first patch.now }
@@ -69,7 +69,7 @@ pub extern "C" fn hsc_mend(image: &mut [u8], first: u64, patch: &[u8], span: &mu
     hsc::mending::hsc_mend(image, first, patch, span)
 }
 
-// Writes the places where the traces differ into the row, and their number into count. A refusal leaves both as they were.
+/// Writes the places where the traces differ into the row, and their number into count. A refusal leaves both as they were.
 #[unsafe(no_mangle)]
 pub extern "C" fn hsc_compare(first: &[u8], second: &[u8], row: &mut [u32], count: &mut u32) -> u64
     ensures status { result ≡ compare_status first.now second.now row.old }
@@ -79,7 +79,7 @@ pub extern "C" fn hsc_compare(first: &[u8], second: &[u8], row: &mut [u32], coun
     hsc::comparing::hsc_compare(first, second, row, count)
 }
 
-// Tells the rest of the longer trace: which trace it is, and in part the place of the rest's first byte there and its length.
+/// Tells the rest of the longer trace: which trace it is, and in part the place of the rest's first byte there and its length.
 #[unsafe(no_mangle)]
 pub extern "C" fn hsc_rest<'a>(first: &'a [u8], second: &'a [u8], part: &mut [u64; 2]) -> u32
     ensures trace { result ≡ rest_number first.now second.now }
@@ -88,8 +88,8 @@ pub extern "C" fn hsc_rest<'a>(first: &'a [u8], second: &'a [u8], part: &mut [u6
     hsc::comparing::hsc_rest(first, second, part)
 }
 
-// Takes the events over the snapshot, as so many steps, and writes the accumulator after each into the row. A refusal leaves both as they
-// were.
+/// Takes the events over the snapshot, as so many steps, and writes the accumulator after each into the row. A refusal leaves both as they
+/// were.
 #[unsafe(no_mangle)]
 pub extern "C" fn hsc_draw(snapshot: &mut [u8], events: &[u8], row: &mut [i32]) -> u64
     ensures status { result ≡ draw_status snapshot.old events.now row.old }
@@ -99,7 +99,7 @@ pub extern "C" fn hsc_draw(snapshot: &mut [u8], events: &[u8], row: &mut [i32]) 
     hsc::drawing::hsc_draw(snapshot, events, row)
 }
 
-// The first place where the two differ; the shorter's length if there is none within it.
+/// The first place where the two differ; the shorter's length if there is none within it.
 #[unsafe(no_mangle)]
 pub extern "C" fn hsc_first_difference(first: &[u8], second: &[u8]) -> u64
     ensures { result ≡ first_difference first.now second.now }
@@ -107,7 +107,7 @@ pub extern "C" fn hsc_first_difference(first: &[u8], second: &[u8]) -> u64
     hsc::differing::hsc_first_difference(first, second)
 }
 
-// Makes a reader of which nothing was taken.
+/// Makes a reader of which nothing was taken.
 #[unsafe(no_mangle)]
 pub extern "C" fn hsc_reader_new(reader: &mut [u8; READER_SIZE])
     ensures { reader.new ≡ new_reader }
@@ -115,8 +115,8 @@ pub extern "C" fn hsc_reader_new(reader: &mut [u8; READER_SIZE])
     hsc::receiving::hsc_reader_new(reader);
 }
 
-// Takes bytes of the chunk until the next snapshot's place or the chunk's end: taken holds their number, and 1 if the buffer now holds that
-// snapshot. A refusal leaves buffer and taken as they were; but for 9 it stays in the reader.
+/// Takes bytes of the chunk until the next snapshot's place or the chunk's end: taken holds their number, and 1 if the buffer now holds that
+/// snapshot. A refusal leaves buffer and taken as they were; but for 9 it stays in the reader.
 #[unsafe(no_mangle)]
 pub extern "C" fn hsc_reader_feed(
     reader: &mut [u8; READER_SIZE],
@@ -132,7 +132,7 @@ pub extern "C" fn hsc_reader_feed(
     hsc::receiving::hsc_reader_feed(reader, chunk, buffer, taken)
 }
 
-// Takes the sender's end: the buffer holds the final state's snapshot. A refusal leaves it as it was; but for 9 it stays in the reader.
+/// Takes the sender's end: the buffer holds the final state's snapshot. A refusal leaves it as it was; but for 9 it stays in the reader.
 #[unsafe(no_mangle)]
 pub extern "C" fn hsc_reader_end(reader: &mut [u8; READER_SIZE], buffer: &mut [u8]) -> u64
     ensures status { result ≡ end_status reader.old buffer.old }

@@ -1,4 +1,4 @@
-// The office program on no input.
+//! The office program on no input.
 #![tactic(auto)]
 
 fn main(rt: HostRuntime) {

@@ -1,4 +1,4 @@
-// The office program on an image of exactly 65,536 bytes.
+//! The office program on an image of exactly 65,536 bytes.
 #![tactic(auto)]
 
 fn main(rt: HostRuntime) {

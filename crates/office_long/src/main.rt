@@ -1,4 +1,4 @@
-// The office program on one byte too many.
+//! The office program on one byte too many.
 #![tactic(auto)]
 
 fn main(rt: HostRuntime) {

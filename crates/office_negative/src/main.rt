@@ -1,4 +1,4 @@
-// The office program on an image that ends with a negative ACC.
+//! The office program on an image that ends with a negative ACC.
 #![tactic(auto)]
 
 fn main(rt: HostRuntime) {

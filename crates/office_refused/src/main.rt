@@ -1,4 +1,4 @@
-// The office program on an image with an illegal event.
+//! The office program on an image with an illegal event.
 #![tactic(auto)]
 
 fn main(rt: HostRuntime) {

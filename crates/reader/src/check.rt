@@ -1,4 +1,4 @@
-// Whether a reader's bytes are such as a call may have left.
+//! Whether a reader's bytes are such as a call may have left.
 ghost use Rattle.std.specs.Prelude.{◌≡◌, cond, ◌≤◌, ltb, length};
 ghost use Rattle.refusal.specs.Refusals.{given};
 ghost use Rattle.snapshot.specs.Widths.{event_size};

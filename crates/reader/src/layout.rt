@@ -1,4 +1,4 @@
-// The reader's bytes: where its parts stand, and these read and written.
+//! The reader's bytes: where its parts stand, and these read and written.
 ghost use Rattle.std.specs.Prelude.{◌≡◌, [], ◌+◌, ◌^◌, ◌≤◌, ◌<◌, length};
 ghost use Rattle.word.specs.Part.{put};
 ghost use Rattle.word.specs.LittleEndian.{to_bytes, number_at};
@@ -28,7 +28,7 @@ pub const STATE: usize = 48;
 
 pub const SIZE: usize = 116;
 
-// The number in the four bytes from byte at on.
+/// The number in the four bytes from byte at on.
 pub fn number(bytes: &[u8; SIZE], at: usize) -> usize
     requires { at + 4 ≤ reader_size }
     ensures { (result ≡ number_at bytes.now at 4) × (result < 2 ^ 32) }
@@ -43,7 +43,7 @@ pub fn write_number(bytes: &mut [u8; SIZE], at: usize, v: usize)
     (v as u32).write(bytes, at);
 }
 
-// The header's number from its byte at on.
+/// The header's number from its byte at on.
 pub fn header_number(bytes: &[u8; SIZE], at: usize) -> usize
     requires { at + 4 ≤ header_size }
     ensures { (result ≡ number_at (header_in bytes.now) at 4) × (result < 2 ^ 32) }
@@ -51,7 +51,7 @@ pub fn header_number(bytes: &[u8; SIZE], at: usize) -> usize
     number(bytes, HEADER + at)
 }
 
-// The edition that the header tells.
+/// The edition that the header tells.
 pub fn edition_in(bytes: &[u8; SIZE]) -> Edition
     ensures { result ≡ edition_of (header_in bytes.now) }
 {
@@ -66,7 +66,7 @@ pub fn header_verdict(bytes: &[u8; SIZE]) -> Result<(), Refusal>
     header::verdict(&bytes[HEADER..PENDING])
 }
 
-// Whether the n bytes from byte at on are 0.
+/// Whether the n bytes from byte at on are 0.
 pub fn is_blank(bytes: &[u8; SIZE], at: usize, n: usize) -> bool
     requires { at + n ≤ reader_size }
     ensures { result ≡ blank bytes.now at n }
@@ -76,7 +76,7 @@ pub fn is_blank(bytes: &[u8; SIZE], at: usize, n: usize) -> bool
     same(&bytes[at..end], &none[0..n])
 }
 
-// Zeros over the n bytes from byte at on.
+/// Zeros over the n bytes from byte at on.
 pub fn clear(bytes: &mut [u8; SIZE], at: usize, n: usize)
     requires { at + n ≤ reader_size }
     ensures { bytes.new ≡ put bytes.old at (zeros n) }

@@ -1,4 +1,4 @@
-// The reader of a trace that comes in chunks (document 02, request 5): its bytes, and what it waits for.
+//! The reader of a trace that comes in chunks (document 02, request 5): its bytes, and what it waits for.
 #![tactic(auto)]
 
 ghost use Rattle.std.specs.Prelude.{◌≡◌, cond, Some, None};

@@ -1,4 +1,4 @@
-// What a reader waits for.
+//! What a reader waits for.
 use refusal::Refusal;
 
 /// What a reader waits for, with how many of the image's bytes it took; or the refusal that it

@@ -1,4 +1,4 @@
-// The lines that the office program writes.
+//! The lines that the office program writes.
 #![tactic(auto)]
 
 pub mod line;

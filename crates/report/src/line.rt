@@ -1,4 +1,4 @@
-// The office program's two lines.
+//! The office program's two lines.
 ghost use Rattle.std.specs.Prelude.{◌≡◌};
 ghost use Rattle.report.specs.Line.{replay_line, refusal_line};
 

@@ -1,4 +1,4 @@
-// The office program: an image from standard input, and its line.
+//! The office program: an image from standard input, and its line.
 ghost use Rattle.std.specs.Prelude.{◌≡◌, ◌≤◌, ◌<◌, IfOk, length, take};
 ghost use Rattle.std.specs.Io.KnownBytes.{Consumes, IsAtEnd};
 ghost use Rattle.word.specs.Part.{part};

@@ -1,4 +1,4 @@
-// The text of a line, piece by piece.
+//! The text of a line, piece by piece.
 ghost use Rattle.std.specs.Prelude.{◌≡◌, [], ◌++◌, ◌+◌, ◌≤◌, ◌<◌, ◌^◌, List, ℕ, length, take};
 ghost use Rattle.report.specs.Line.{decimal, signed_decimal, hexadecimal};
 

@@ -1,7 +1,7 @@
 //! Document 01's byte offsets: where each number begins, counted from the first byte of what
 //! holds it.
 
-// In 26 bytes of settings; PFN is the first.
+/// In 26 bytes of settings; PFN is the first.
 pub const MODE: usize = 2;
 
 pub const HIP: usize = 4;
@@ -18,7 +18,7 @@ pub const HPO: usize = 22;
 
 pub const LPO: usize = 24;
 
-// In a snapshot; the staged settings are the first.
+/// In a snapshot; the staged settings are the first.
 pub const ACTIVE: usize = 26;
 
 pub const ACC: usize = 52;
@@ -37,14 +37,14 @@ pub const FIRST: usize = 66;
 
 pub const SECOND: usize = 67;
 
-// In an event; the kind is the first, and the stamp is never read.
+/// In an event; the kind is the first, and the stamp is never read.
 pub const SUB: usize = 1;
 
 pub const ZERO: usize = 2;
 
 pub const VALUE: usize = 4;
 
-// In the numbers beside a snapshot while events are taken; ACC is the first.
+/// In the numbers beside a snapshot while events are taken; ACC is the first.
 pub const MOVING_FLAGS: usize = 4;
 
 pub const MOVING_LEVELS: usize = 8;

@@ -1,5 +1,5 @@
-// Crate `counter`: the rows of document 01's bench table that are run, and not proved, and those of document 02, request 6. Settings by
-// what a row names, the rest good.
+//! Crate `counter`: the rows of document 01's bench table that are run, and not proved, and those of document 02, request 6. Settings by
+//! what a row names, the rest good.
 use super::words::verdict;
 use counter::flag::Flag;
 use counter::rules::Rule;

@@ -1,4 +1,4 @@
-// Crate `counter`: input 0 falls in modes 6 and 7 with the other three inputs and CE in both positions (document 02, request 4).
+//! Crate `counter`: input 0 falls in modes 6 and 7 with the other three inputs and CE in both positions (document 02, request 4).
 use super::loads::settings;
 use super::words::verdict;
 use counter::flag::Flag;

@@ -1,4 +1,4 @@
-// Masks on a word: one flag of the 32-bit flag word, and the merge of two 16-bit output words.
+//! Masks on a word: one flag of the 32-bit flag word, and the merge of two 16-bit output words.
 ghost use Rattle.std.specs.Prelude.{◌≡◌, ◌<◌};
 ghost use Rattle.word.specs.Masks.{bit, set_bit, clear_bit, merge};
 
