@@ -1,7 +1,7 @@
 //! The header of an image: six numbers, each in four bytes, what they tell, and refusals 1 to 3.
 ghost use Rattle.std.specs.Prelude.{◌≡◌, ◌+◌, ◌*◌, ◌^◌, ◌≤◌, ◌<◌, length};
 ghost use Rattle.word.specs.LittleEndian.{number_at};
-ghost use Rattle.refusal.specs.Refusals.{answer_of};
+ghost use Rattle.refusal.specs.Refusals.{answer_of, given};
 ghost use Rattle.replay.specs.Traces.{shape_of as trace_shape};
 ghost use Rattle.snapshot.specs.Widths.{event_size};
 ghost use Rattle.image.specs.Header.{header_size, max_events, shape_of, edition_of};
@@ -55,9 +55,10 @@ pub fn edition(image: &[u8]) -> Edition
     edition_at(number(image, SIXTH))
 }
 
-/// The trace that the header tells.
+/// The trace that the header tells, where it is not refused.
+#[tactic(auto, unfolding(crate::specs::Header::header_verdict))]
 pub fn trace(image: &[u8]) -> Trace
-    requires { header_size ≤ length image.now }
+    requires { header_verdict image.now ≡ given tt }
     ensures { trace_shape result ≡ shape_of image.now }
 {
     Trace {

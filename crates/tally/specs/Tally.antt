@@ -1,7 +1,6 @@
 -- The tally as a system: its state is a digit, and an event is a digit that is added. Each takes one byte.
 use Rattle.std.specs.Prelude.{true, List, [], ◌∷◌, ℕ, ◌+◌, ◌%◌, ◌<◌, ltb, get_or}
 use Rattle.replay.specs.System.{System}
-use Rattle.replay.specs.Image.{Shape}
 
 -- the digit after the digit b is added, for any two bytes
 abbrev pub added : ℕ → ℕ → ℕ
@@ -28,7 +27,3 @@ tally =
       beside = 0;
       state_in = λ state beside. digit_in state;
     }
-
--- an image with a header of that size, that many events and that spacing
-abbrev pub shape : ℕ → ℕ → ℕ → Shape
-shape header count spacing = record { header = header; count = count; spacing = spacing }

@@ -4,52 +4,30 @@ ghost use Rattle.replay.specs.Image.{Fitting};
 ghost use Rattle.replay.specs.Replay.{Replayable, replayed_image, TrueTable};
 ghost use Rattle.replay.specs.Mend.{outcome, mend};
 ghost use Rattle.replay.specs.Claim.{Mended};
-ghost use Rattle.tally.specs.Tally.{tally, shape};
+ghost use Rattle.replay.specs.Traces.{shape_of};
+ghost use Rattle.tally.specs.Tally.{tally};
 
 use crate::digit::Digit;
 use replay::table;
 use replay::trace::Trace;
 
 /// Writes every snapshot anew from the events.
-pub fn replay(image: &mut [u8], header: usize, count: usize, spacing: usize)
-    requires { Replayable tally (shape header count spacing) image.old }
-    ensures { image.new ≡ replayed_image tally (shape header count spacing) image.old }
+pub fn replay(image: &mut [u8], trace: Trace)
+    requires { Replayable tally (shape_of trace) image.old }
+    ensures { image.new ≡ replayed_image tally (shape_of trace) image.old }
 {
-    let _ = table::replay::<Digit>(
-        image,
-        Trace {
-            header,
-            count,
-            spacing,
-        },
-    );
+    let _ = table::replay::<Digit>(image, trace);
 }
 
 /// Writes the patch over the events from event first on, mends the snapshots after it, and returns the stop.
-pub fn mend(
-    image: &mut [u8],
-    header: usize,
-    count: usize,
-    spacing: usize,
-    first: usize,
-    patch: &[u8],
-) -> usize
-    requires replayable { Replayable tally (shape header count spacing) image.old }
-    requires fitting { Fitting tally (shape header count spacing) first (length patch.now) patch.now }
+pub fn mend(image: &mut [u8], trace: Trace, first: usize, patch: &[u8]) -> usize
+    requires replayable { Replayable tally (shape_of trace) image.old }
+    requires fitting { Fitting tally (shape_of trace) first (length patch.now) patch.now }
     ensures answer { outcome image.new result
-        ≡ mend tally (shape header count spacing) first (length patch.now) patch.now image.old }
-    ensures claim { TrueTable tally (shape header count spacing) image.old
-        → Mended tally (shape header count spacing) image.old first (length patch.now) patch.now
+        ≡ mend tally (shape_of trace) first (length patch.now) patch.now image.old }
+    ensures claim { TrueTable tally (shape_of trace) image.old
+        → Mended tally (shape_of trace) image.old first (length patch.now) patch.now
         (outcome image.new result) }
 {
-    table::mend::<Digit>(
-        image,
-        Trace {
-            header,
-            count,
-            spacing,
-        },
-        first,
-        patch,
-    )
+    table::mend::<Digit>(image, trace, first, patch)
 }

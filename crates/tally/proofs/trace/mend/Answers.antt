@@ -2,8 +2,9 @@
 -- that answer.
 use native.Mathlib.Nat.{div-one}
 use lib.ListN.{length}
+use Rattle.replay.specs.Traces.{shape_of}
 use Rattle.replay.proofs.Theorem.{mended-by}
-use Rattle.tally.specs.Tally.{tally, shape}
+use Rattle.tally.specs.Tally.{tally}
 use Rattle.tally.specs.Laws.{laws}
 use Rattle.tally.proofs.trace.mend.Goals as goal
 
@@ -14,6 +15,6 @@ returns c =
     record {
       answer = answer;
       claim = λ t.
-          mended-by tally laws (shape a.header a.count a.spacing) a.image.now c.requires.replayable t a.first (length a.patch.now) a.patch.now
+          mended-by tally laws (shape_of a.trace) a.image.now c.requires.replayable t a.first (length a.patch.now) a.patch.now
           c.requires.fitting _ answer;
     }
