@@ -17,7 +17,7 @@ fn beyond(first: u64, n: usize, count: usize) -> bool
         .is_none_or(|end| count < end)
 }
 
-// Refusals 7 and 8, of a patch for a trace of count events.
+/// Refusals 7 and 8, of a patch for a trace of count events.
 pub fn patch_verdict(ed: Edition, count: usize, first: u64, patch: &[u8]) -> Result<(), Refusal>
     ensures { answer_of result ≡ patch_verdict (system ed) count first patch.now }
 {
