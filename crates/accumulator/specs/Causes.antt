@@ -32,6 +32,6 @@ abbrev pub cause_number : Option Cause → ℕ
 cause_number (Some cause) = number cause
 cause_number None = 0
 
--- the cause with this number, or that no cause has it
+-- the cause with this number, or the number, which no cause has
 abbrev pub Names : ℕ → Result Cause NoCause → Type 0
-Names n r = MatchResult r (λ cause. number cause ≡ n) (λ e. (cause : Cause) → number cause ≢ n)
+Names n r = MatchResult r (λ cause. number cause ≡ n) (λ e. (e.0 ≡ n) × ((cause : Cause) → number cause ≢ n))

@@ -31,6 +31,6 @@ bit_of Loaded = LOADED
 abbrev pub flag_count : ℕ
 flag_count = 20
 
--- the flag with this bit, or that the number is past the flags
+-- the flag with this bit, or the number, which is past the flags
 abbrev pub Names : ℕ → Result Flag NoFlag → Type 0
-Names n r = MatchResult r (λ flag. bit_of flag ≡ n) (λ e. flag_count ≤ n)
+Names n r = MatchResult r (λ flag. bit_of flag ≡ n) (λ e. (e.0 ≡ n) × (flag_count ≤ n))

@@ -19,6 +19,6 @@ abbrev pub mode_number : Option Mode → ℕ
 mode_number (Some mode) = number mode
 mode_number None = 8
 
--- the mode with this number, or that it is no mode's
+-- the mode with this number, or the number, which is no mode's
 abbrev pub IsMode : ℤ → Result Mode NoMode → Type 0
-IsMode z r = MatchResult r (λ mode. number mode ≡ mode_of z) (λ e. mode_of z ≡ 8)
+IsMode z r = MatchResult r (λ mode. number mode ≡ mode_of z) (λ e. (e.0 ≡ z) × (mode_of z ≡ 8))

@@ -5,7 +5,7 @@ ghost use Rattle.counter.specs.Events.{Parsed, takes_bit, takes_zero};
 
 use crate::flag::Flag;
 
-/// A legal event.
+/// What a legal event asks for.
 #[derive(Clone, Copy, Debug, PartialEq, Eq)]
 pub enum Event {
     Blank,

@@ -1,5 +1,5 @@
-//! The counter: its settings, its state, and the step of each event. Functions that hold branches
-//! work on plain numbers; methods of the state read parts, call them and store parts.
+//! The counter: its settings, its state, and the step of each event, as methods that change the
+//! state in place.
 #![tactic(auto)]
 
 pub mod causes;

@@ -57,8 +57,8 @@ fn reset(flags: u32) -> Sampled
     }
 }
 
-// Nearly every event is a sample: its code stands whole in each loop that takes events (`inline`), so that
-// no call is made for it and no state copied.
+// Nearly every event is a sample: what it makes of ACC and the flags is worked out within each loop
+// that takes events (`inline`), so that no call is made for it and no state copied.
 impl Counter {
     #[inline(always)]
     fn unmoved(&self) -> Sampled

@@ -3,5 +3,6 @@ pub mod Status
 pub mod Drawn
 mod Widened
 mod Whole
+mod Rows
 mod Written
 mod Done

@@ -1,4 +1,5 @@
-//! Document 01's trace image in a lent slice: its edition, its header, its events, its table, and what is refused.
+//! Document 01's trace image in a lent slice: its edition, its header, what is refused, and the
+//! state while its events are taken.
 #![tactic(auto)]
 
 pub mod check;

@@ -109,7 +109,8 @@ fn tell(rt: &impl Print, image: &mut [u8]) {
     put(rt, &line[..n]);
 }
 
-/// The whole program. One byte past the buffer is too long, and a read that fails ends the input.
+/// The whole program: the bytes before the input's end, or before a read that fails, are the image.
+/// One byte past the buffer is too long.
 pub fn run(rt: &(impl Input + Print)) {
     let mut input = rt.reader();
     let mut image = [0u8; 65536];

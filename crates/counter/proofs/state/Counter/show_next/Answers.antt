@@ -10,4 +10,4 @@ pub returns-in-Err : goal.returns-in-Err
 unfolding finished_flags
 returns-in-Err c =
     let d = c.args.self.now in
-    rw c.in-Some.is (c.quiet.ensures ∙ ap (λ (w : ℕ). with_flags w d) (sym (started-none c.in-Some.number d.flags c.in-Err.ensures)))
+    rw c.in-Some.is (c.quiet.ensures ∙ ap (λ (w : ℕ). with_flags w d) (sym (started-none c.in-Some.number d.flags c.in-Err.ensures.1)))
