@@ -1,4 +1,5 @@
 //! The places where two traces differ: counted while the second is checked, and written into a row.
+//! The two stay two arguments, as they are lent: most of what is asked is asked of one of them.
 ghost use Rattle.std.specs.Prelude.{◌≡◌, true, ◌*◌, ◌≤◌, ◌<◌, eqb, length};
 ghost use Rattle.word.specs.Part.{part, put};
 ghost use Rattle.word.specs.LittleEndian.{number_at};

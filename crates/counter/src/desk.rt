@@ -108,6 +108,7 @@ impl Desk {
 
     /// Ends the routine: the first waiting cause starts, or none runs. Answers the number of the
     /// cause that starts.
+    // By number, as the desk's places are.
     #[tactic(auto, unfolding(crate::specs::Desk::finish))]
     pub fn finish(&mut self) -> Option<u8>
         ensures next { next_of result ≡ (finish self.old).next }

@@ -40,7 +40,8 @@ fn step_verdict(snapshot: &[u8], event: &[u8]) -> Result<(), Refusal>
     event_verdict(snapshot, event)
 }
 
-// Writes the next snapshot over this one, whose bytes hold the state meanwhile.
+// Writes the next snapshot over this one, whose bytes hold the state meanwhile: a `Running` would be
+// copied in and out for each step.
 fn step_over(snapshot: &mut [u8], event: &[u8])
     requires snapshot_formed { (length snapshot.old ≡ snapshot_size) × (formed snapshot.old ≡ true) }
     requires event_whole { length event.now ≡ event_size }

@@ -86,6 +86,7 @@ impl Machine for Running {
         Running { snapshot, moving }
     }
 
+    // Inlined, as what it calls for a sample is (`counter::sampling`).
     #[inline(always)]
     fn step(&mut self, events: &[u8], at: usize) {
         split::step_over(&mut self.snapshot, &mut self.moving, events, at);

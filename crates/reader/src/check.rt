@@ -17,6 +17,7 @@ use refusal::Refusal;
 use snapshot::EVENT_SIZE;
 
 /// The refusal that a trace may have by this number at this place; `None` where it has none such.
+// A chain, and no `find` over the four: that form stayed open.
 #[tactic(auto, unfolding(crate::specs::WellFormed::fault))]
 pub fn trace_refusal(number: u64, place: usize) -> Option<Refusal>
     ensures { FaultTold number place result }

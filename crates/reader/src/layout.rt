@@ -29,6 +29,7 @@ pub const STATE: usize = 48;
 pub const SIZE: usize = 116;
 
 /// The number in the four bytes from byte at on.
+// As `header::number`, with the bound that places in a reader want.
 pub fn number(bytes: &[u8; SIZE], at: usize) -> usize
     requires { at + 4 ≤ reader_size }
     ensures { (result ≡ number_at bytes.now at 4) × (result < 2 ^ 32) }
@@ -77,6 +78,7 @@ pub fn is_blank(bytes: &[u8; SIZE], at: usize, n: usize) -> bool
 }
 
 /// Zeros over the n bytes from byte at on.
+// From an array, as in `is_blank`: `copy_over` and `same` promise what `put` and `blank` say.
 pub fn clear(bytes: &mut [u8; SIZE], at: usize, n: usize)
     requires { at + n ≤ reader_size }
     ensures { bytes.new ≡ put bytes.old at (zeros n) }
