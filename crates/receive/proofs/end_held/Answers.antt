@@ -3,9 +3,8 @@ use mathlib.Core.Path.{◌≡◌, sym, ap, ◌∙◌, subst}
 use mathlib.Core.List.{List}
 use Prim.Native.Nat.{ℕ}
 use Rattle.word.specs.Part.{put}
-use Rattle.std.proofs.Common.{rules}
-use Rattle.refusal.specs.Refusals.{Answer, answer_of}
-use Rattle.refusal.proofs.Answers.{refused-kept, accepted-answer, accepted-changed}
+use Rattle.refusal.specs.Refusals.{Answer}
+use Rattle.refusal.proofs.Answers.{accepted-answer, accepted-changed}
 use Rattle.pieces.specs.Traces.{verdict, shown}
 use Rattle.reader.specs.Formats.{format, ImageReader}
 use Rattle.reader.specs.Layout.{reader_in}
@@ -17,18 +16,6 @@ use Rattle.receive.proofs.end_held.Goals as goal
 -- what is told of the bytes is the answer to the end
 answered : (b out : List ℕ) {a : Answer Unit} → reader_in out ≡ ended_by b → a ≡ verdict format (reader_in out).phase → a ≡ verdict format (ended_by b).phase
 answered b out same answer = answer ∙ ap (λ (r : ImageReader). verdict format r.phase) same
-
-pub returns-in_err-refusal-clause-answer : goal.returns-in_err-refusal-clause-answer
-returns-in_err-refusal-clause-answer c =
-    let told : answer_of c.from_residual.result ≡ answer_of c.refusal.result = search rules in
-    told ∙ answered _ _ c.finish.ensures.reader c.refusal.ensures.answer
-
-pub returns-in_err-refusal-clause-buffer : goal.returns-in_err-refusal-clause-buffer
-returns-in_err-refusal-clause-buffer c =
-    refused-kept _ _ (answered _ _ c.finish.ensures.reader c.refusal.ensures.answer) _ c.in_err-refusal.was _ _
-
-pub returns-clause-answer : goal.returns-clause-answer
-returns-clause-answer c = sym (accepted-answer _ _ (answered _ _ c.finish.ensures.reader c.refusal.ensures.answer) c.in_ok-refusal.was)
 
 pub returns-clause-buffer : goal.returns-clause-buffer
 returns-clause-buffer c =

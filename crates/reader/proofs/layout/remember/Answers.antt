@@ -2,19 +2,14 @@
 use mathlib.Core.Path.{ap₂, ◌∙◌}
 use mathlib.Core.List.{List}
 use Prim.Native.Nat.{ℕ}
-use native.Mathlib.Omega.{arith}
 use Rattle.word.specs.Part.{put}
 use Rattle.word.specs.LittleEndian.{to_bytes}
 use Rattle.word.proofs.Part.{put-whole}
 use Rattle.refusal.specs.Refusals.{number_of, place_of}
-use Rattle.refusal.proofs.Answers.{number-range}
 use Rattle.reader.specs.Formats.{zeros}
 use Rattle.reader.specs.Layout.{reader_size}
 use Rattle.reader.proofs.Laid.{laid-refused}
 use Rattle.reader.proofs.layout.remember.Goals as goal
-
-pub write_number-requires : goal.write_number-requires
-write_number-requires c = (omega arith, omega (arith, c.number.ensures, (number-range c.args.refusal).1))
 
 pub returns : goal.returns
 returns c =
