@@ -35,12 +35,14 @@ pub fn queued_of(first: u8, second: u8) -> u8
 }
 
 /// Whether the cause stands in one of the two places.
+// By number, as the desk's places are.
 fn waits(cause: u8, first: u8, second: u8) -> bool
     ensures { result ≡ waits cause first second }
 {
     (first == cause) | (second == cause)
 }
 
+// A cause comes and goes by number, as the desk's places are.
 impl Desk {
     /// None running, none waiting.
     pub fn empty() -> Self

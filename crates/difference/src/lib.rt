@@ -1,6 +1,7 @@
 //! Two parts of bytes compared up to the first place where they differ. Blocks are compared whole,
 //! so that the compiler compares their bytes at once; the byte is looked for in the first block
 //! that differs.
+//! A block is asked by its place, and not cut out first: its contract is of the whole parts.
 #![tactic(auto)]
 
 ghost use Rattle.std.specs.Prelude.{◌≡◌, ◌+◌, ◌≤◌, min, length};

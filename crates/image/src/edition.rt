@@ -1,4 +1,5 @@
 //! The editions of an image, and what is asked of one by its header alone.
+//! A slice and a place in it, as in `word::bytes`.
 ghost use Rattle.std.specs.Prelude.{◌≡◌, ◌+◌, ◌*◌, ◌≤◌, length};
 ghost use Rattle.word.specs.Part.{part, put};
 ghost use Rattle.replay.specs.Events.{first_illegal};
@@ -39,6 +40,7 @@ pub fn size(ed: Edition) -> usize
 }
 
 /// The first illegal event of the `count` events from byte `at` on, or `count`.
+// A number, and no `Option`: the theory's, as in `replay::rows`.
 pub fn first_illegal(ed: Edition, events: &[u8], at: usize, count: usize) -> usize
     requires { at + count * event_size ≤ length events.now }
     ensures { result ≡ first_illegal (system ed) events.now at 0 count }

@@ -1,4 +1,5 @@
 //! The header of an image: six numbers, each in four bytes, what they tell, and refusals 1 to 3.
+//! A slice and a place in it, as in `word::bytes`.
 ghost use Rattle.std.specs.Prelude.{◌≡◌, ◌+◌, ◌*◌, ◌^◌, ◌≤◌, ◌<◌, length};
 ghost use Rattle.word.specs.LittleEndian.{number_at};
 ghost use Rattle.refusal.specs.Refusals.{answer_of, given};
@@ -85,14 +86,15 @@ pub fn snapshot_place(count: usize, size: usize, j: usize) -> usize
     event_place(count) + j * size
 }
 
-// Refusal 2.
+// Refusal 2. The header's numbers as they stand, each read for this one question, as the definition
+// takes them.
 fn limits_broken(count: usize, spacing: usize, sixth: usize) -> bool
     ensures { result ≡ limits_broken count spacing sixth }
 {
     (MAX_EVENTS < count) | (spacing == 0) | (MAX_SPACING < spacing) | !(sixth == 0)
 }
 
-// Refusal 3, of a header that refusal 2 leaves.
+// Refusal 3, of a header that refusal 2 leaves: plain numbers, as for refusal 2.
 fn offsets_broken(
     count: usize,
     spacing: usize,

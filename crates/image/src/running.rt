@@ -1,5 +1,6 @@
 //! The base edition as a machine: the counter's state in the bytes of a snapshot, and beside them
 //! the numbers that nearly every event moves.
+//! A slice and a place in it, as in `word::bytes`.
 ghost use Rattle.std.specs.Prelude.{◌≡◌, true, refl, length, ◌+◌, ◌≤◌};
 ghost use Rattle.std.proofs.Common.{rules};
 ghost use Rattle.word.specs.Part.{part};
@@ -80,6 +81,7 @@ impl Machine for Running {
     }
 
     fn load(image: &[u8], at: usize) -> Self {
+        // `split::load_state` fills what it is lent.
         let mut snapshot = [0u8; SNAPSHOT_SIZE];
         let mut moving = [0u8; MOVING_SIZE];
         split::load_state(image, at, &mut snapshot, &mut moving);

@@ -1,4 +1,5 @@
 //! The reader's bytes: where its parts stand, and these read and written.
+//! A slice and a place in it, as in `word::bytes`.
 ghost use Rattle.std.specs.Prelude.{◌≡◌, [], ◌+◌, ◌^◌, ◌≤◌, ◌<◌, length};
 ghost use Rattle.word.specs.Part.{put};
 ghost use Rattle.word.specs.LittleEndian.{to_bytes, number_at};
@@ -45,6 +46,7 @@ pub fn write_number(bytes: &mut [u8; SIZE], at: usize, v: usize)
 }
 
 /// The header's number from its byte at on.
+// As `header::number`, over a reader's 116 bytes.
 pub fn header_number(bytes: &[u8; SIZE], at: usize) -> usize
     requires { at + 4 ≤ header_size }
     ensures { (result ≡ number_at (header_in bytes.now) at 4) × (result < 2 ^ 32) }
@@ -53,6 +55,7 @@ pub fn header_number(bytes: &[u8; SIZE], at: usize) -> usize
 }
 
 /// The edition that the header tells.
+// As `header::edition`, over a reader's 116 bytes.
 pub fn edition_in(bytes: &[u8; SIZE]) -> Edition
     ensures { result ≡ edition_of (header_in bytes.now) }
 {

@@ -104,6 +104,7 @@ fn put(rt: &impl Print, line: &[u8]) {
 
 // Writes the image's line.
 fn tell(rt: &impl Print, image: &mut [u8]) {
+    // A lent buffer: `answer` writes into it.
     let mut line = [0u8; ROOM];
     let n = answer(image, &mut line);
     put(rt, &line[..n]);
@@ -119,6 +120,7 @@ pub fn run(rt: &(impl Input + Print)) {
     if count(read_full(&mut input, &mut more)) == 0 {
         tell(rt, &mut image[..n]);
     } else {
+        // Bytes, as `put` writes them.
         put(rt, b"too long\n");
     }
 }

@@ -8,6 +8,7 @@ use std::marker::Model;
 pub const ROOM: usize = 160;
 
 /// A line's text so far.
+// No heap: an array of the most bytes, and how many of them are the text. No `Display`: see `line`.
 #[derive(Drop)]
 pub struct Text {
     bytes: [u8; ROOM],

@@ -1,4 +1,5 @@
 //! A state in the 68 bytes of its snapshot.
+//! A slice and a place in it, as in `word::bytes`.
 ghost use Rattle.std.specs.Prelude.{◌≡◌, ◌+◌, ◌≤◌, length};
 ghost use Rattle.word.specs.Part.{part, put};
 ghost use Rattle.snapshot.specs.Widths.{snapshot_size};

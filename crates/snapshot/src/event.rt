@@ -1,4 +1,5 @@
-//! An event in its 12 bytes.
+//! An event in its 12 bytes. A slice and a place in it, as in
+//! `word::bytes`.
 ghost use Rattle.std.specs.Prelude.{◌≡◌, ◌+◌, ◌≤◌, length};
 ghost use Rattle.word.specs.Part.{part};
 ghost use Rattle.snapshot.specs.Widths.{event_size};

@@ -1,4 +1,5 @@
 //! Whether a snapshot is well formed.
+//! A slice and a place in it, as in `word::bytes`.
 ghost use Rattle.std.specs.Prelude.{◌≡◌, ◌+◌, ◌≤◌, length};
 ghost use Rattle.word.specs.Part.{part};
 ghost use Rattle.snapshot.specs.Widths.{snapshot_size};

@@ -1,5 +1,6 @@
 //! Settings in the 26 bytes of a snapshot that hold them. Functions, since `Settings` is the
 //! counter's: as methods they would need a trait for this one type.
+//! A slice and a place in it, as in `word::bytes`.
 ghost use Rattle.std.specs.Prelude.{◌≡◌, ◌+◌, ◌≤◌, length};
 ghost use Rattle.word.specs.Part.{put};
 ghost use Rattle.word.specs.Layouts.{pack};

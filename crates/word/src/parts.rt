@@ -1,4 +1,5 @@
-//! Parts of slices: compared, and copied over.
+//! Parts of slices: compared, and copied over. A slice and a place in it, as in
+//! `word::bytes`.
 ghost use Rattle.std.specs.Prelude.{◌≡◌, ◌+◌, ◌≤◌, length};
 ghost use Rattle.word.specs.Part.{part, put};
 ghost use Rattle.word.specs.Same.{same_bytes};
