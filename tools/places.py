@@ -106,7 +106,7 @@ row("1b", "arms that take a refusal apart to pass it on", lines(r"\b(?!Phase\b)\
 row("1c", "refusals returned, and acceptances, by a variant of an own enum",
     lines(r"return (?!Phase\b)\w+::Refused\(|^\s*\w+::Refused\(Refusal::|\bVerdict::Accepted,?$"))
 row("1d", "functions that take or answer a number for a cause, a running cause or a number of causes",
-    functions(r"\b(cause|running|first|second): u8\b|fn queued_of|fn none_or_cause"))
+    functions(r"\b(cause|running|first|second|number): u8\b(?!.*-> Result)|fn queued_of|fn none_or_cause"))
 row("1e", "for a mode", functions(r"\bm: u8|fn mode(_of)?\(.*-> u8"))
 row("1f", "for a rule", functions(r"\b(broken|n): u16|fn \w*broken\w*\([^)]*\) -> u16"))
 row("1g", "for a kind of event", functions(r"\b(kind|sub): u8"))
@@ -134,7 +134,7 @@ row("4a", "equality, order, conversion by hand",
     functions(r"fn (same\w*|queued_of|empty|mode_of|fresh|levels_of|word_of|short_of|is_none|edition_at|trace_number|number_of|trace_of"
               r"|place_of|told_place|shorter|is_zero)\b"))
 row("4b", "a struct copied before a field of it is set", lines(r"^\s*let mut [a-z] = [a-z](\.[a-z]+)?;$"))
-row("4c", "printing by hand", functions(r"fn (append\w*|replay_line|refusal_line|print_\w+|decimal|hex|text)\b"))
+row("4c", "printing by hand", functions(r"fn (append\w*|push\w*|replay_line|refusal_line|print_\w+|decimal|hex|text)\b"))
 print("point 5")
 row("5a", "signatures with state and moving", functions(r"\bmoving: &"))
 row("5b", "signatures with count and spacing, or more numbers of a shape", functions(r"\bcount: usize[^)]*spacing: usize|\bspacing: usize[^)]*count: usize"))
