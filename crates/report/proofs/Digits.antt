@@ -1,6 +1,6 @@
 -- Digits: a number in the fewest decimal digits is the definition's text, and one that w hex digits hold takes w.
 use mathlib.Core.Path.{◌≡◌, refl, ap, ◌∙◌}
-use mathlib.Core.Bool.{Bool, true, false}
+use mathlib.Core.Bool.{Bool, true, false, cond}
 use mathlib.Core.List.{List, [], ◌∷◌, ◌++◌}
 use Prim.Native.Nat.{ℕ, zero, suc, ◌-◌, ◌*◌, ◌/◌, ◌%◌, ◌^◌, ◌≤◌, ◌<◌}
 use native.Mathlib.Nat.{pow-suc, mod-eq_of_lt, le_trans, lt_trans, le_antisymm, le_refl, lt_of_lt_of_le, pow-le-pow_right, not-le_of_lt}
@@ -48,6 +48,15 @@ decimal-more (suc j) (suc (suc k)) n p q h f =
 pub decimal-fewest : (n k : ℕ) → n < 2 ^ 64 → IsDigitCount 10 1 n k → last_digits 10 k n ≡ decimal n
 decimal-fewest n k h f =
     decimal-more 20 k n f.0 (fewest-le 10 1 n k 20 (lit< tt) (lit≤ tt) (lt_trans h (lit< tt)) f) f.1 f.2
+
+pub length-decimal : (j n : ℕ) → length (decimal_in j n) ≤ j
+unfolding decimal_in
+length-decimal zero n = lit≤ tt
+length-decimal (suc j) n = go (length-decimal j (n / 10)) (ltb n 10)
+  where
+    go : length (decimal_in j (n / 10)) ≤ j → (b : Bool) → length (cond b (hex_digit_ascii n ∷ []) (decimal_in j (n / 10) ++ (hex_digit_ascii (n % 10) ∷ []))) ≤ suc j
+    go h true = omega arith
+    go h false = rw (length-append (decimal_in j (n / 10)) (hex_digit_ascii (n % 10) ∷ [])) (omega arith)
 
 -- ---- hex
 

@@ -47,7 +47,7 @@ impl Text {
 
     /// Appends a number in decimal.
     pub fn push_decimal(&mut self, n: u64)
-        requires { length self.old + 20 ≤ 160 }
+        requires { length self.old + length (decimal n) ≤ 160 }
         ensures text { self.new ≡ self.old ++ decimal n }
         ensures grown { length self.new ≤ length self.old + 20 }
     {
@@ -59,7 +59,7 @@ impl Text {
 
     /// Appends a signed number in decimal.
     pub fn push_signed(&mut self, v: i32)
-        requires { length self.old + 21 ≤ 160 }
+        requires { length self.old + length (signed_decimal v) ≤ 160 }
         ensures text { self.new ≡ self.old ++ signed_decimal v }
         ensures grown { length self.new ≤ length self.old + 21 }
     {

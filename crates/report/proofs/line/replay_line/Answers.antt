@@ -2,11 +2,26 @@
 use mathlib.Core.Path.{ap, ◌∙◌}
 use mathlib.Core.List.{List, ◌++◌}
 use Prim.Native.Nat.{ℕ}
+use native.Mathlib.Omega.{arith}
 use Rattle.word.proofs.TwosComplement.{signed-unsigned}
 use Rattle.report.specs.Line.{decimal, signed_decimal, hexadecimal, line_end, replay_line}
 use Rattle.report.specs.Line.{events_word, snapshots_word, acc_word, out_word, er_word, flags_word}
+use Rattle.report.proofs.Digits.{length-decimal}
+use Rattle.report.proofs.Signs.{length-signed}
 use Rattle.report.proofs.Pieces.{next}
 use Rattle.report.proofs.line.replay_line.Goals as goal
+
+pub push_decimal-requires : goal.push_decimal-requires
+push_decimal-requires c = let digits = length-decimal 20 c.args.events in grind arith
+
+pub push_decimal-requires-2 : goal.push_decimal-requires-2
+push_decimal-requires-2 c = let digits = length-decimal 20 c.args.snapshots in grind arith
+
+pub push_signed-requires : goal.push_signed-requires
+push_signed-requires c = let digits = length-signed c.args.acc in rw (signed-unsigned c.ranges.acc) (grind arith)
+
+pub push_decimal-requires-3 : goal.push_decimal-requires-3
+push_decimal-requires-3 c = let digits = length-decimal 20 c.from-2.result in grind arith
 
 pub returns : goal.returns
 unfolding replay_line
