@@ -5,8 +5,8 @@ use Prim.Native.Nat.{ℕ, ◌+◌, ◌-◌, ◌≤◌, ◌<◌}
 use native.Mathlib.Nat.{add-zero, add_assoc, zero-add, suc-add, le-add_right}
 use native.Mathlib.Numerals.{add-one}
 use native.Mathlib.Omega.{arith}
-use lib.ListN.{length, take, drop, set, length-append, take-append-drop}
-use lib.Seq.{length-take-le, take-append-le, drop-append-le, drop_at, set_split, drop-drop}
+use lib.ListN.{length, get_or, take, drop, set, length-append, take-append-drop}
+use lib.Seq.{length-take-le, take-append-le, drop-append-le, drop_at, take-suc, set_split, drop-drop}
 use borrow.Rule.Slice.PartMut.{put_mid}
 use Rattle.word.specs.Part.{put}
 use Rattle.word.proofs.Part.{length-put, take-put-end, drop-put, put-whole}
@@ -96,3 +96,15 @@ module _ {A : Type 0} where
   range-write l b c at end e same =
       let far : at + (end - at) ≡ at + length c = omega arith in
       rw (same, drop-drop (end - at) at l, far)
+
+  -- ---- a copy, one element at a time
+
+  pub put-more : (l : List A) (at : ℕ) (bs : List A) (i : ℕ) (d : A) → i < length bs → at + length bs ≤ length l
+      → set (put l at (take i bs)) (at + i) (get_or bs i d) ≡ put l at (take (i + 1) bs)
+  put-more l at bs i d h b =
+      let long : length (take i bs) ≡ i = length-take-le i bs (omega arith) in
+      let room : at + i < length (put l at (take i bs)) = rw (length-put l at (take i bs) (omega arith)) (omega arith) in
+      set-put (put l at (take i bs)) (at + i) (get_or bs i d) room
+      ∙ ap (λ (n : ℕ). put (put l at (take i bs)) (at + n) (get_or bs i d ∷ [])) (sym long)
+      ∙ put-put l at (take i bs) (get_or bs i d ∷ []) (omega arith)
+      ∙ ap (put l at) (rw (add-one i, take-suc bs i d))

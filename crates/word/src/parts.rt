@@ -21,11 +21,15 @@ pub fn same(a: &[u8], b: &[u8]) -> bool
 }
 
 /// Copies `src` over the elements of `dst` from `at` on; every other element stays.
+// One element at a time: std's `copy_from_slice` asks `memmove` of whoever links the archive, which
+// nothing else in it needs.
 pub fn copy_over<T: Copy>(dst: &mut [T], at: usize, src: &[T])
     requires { at + length src.now ≤ length dst.old }
     ensures { dst.new ≡ put dst.old at src.now }
 {
-    dst[at..at + src.len()].copy_from_slice(src);
+    for i in 0..src.len() {
+        dst[at + i] = src[i];
+    }
 }
 
 /// Copies the `n` elements of `src` from `from` on over those of `dst` from `at` on.
