@@ -15,6 +15,18 @@ pub raise-none : (c : Counter) → raise 0 c ≡ c
 unfolding raise enabled unmasked cause_word
 raise-none c = rw (and-false (bit c.flags FE && bit c.flags UIE))
 
+-- a number that is no cause's raises nothing
+pub raise-other : (n : ℕ) → ((cause : Cause) → number cause ≡ n → ⊥) → (c : Counter) → raise n c ≡ c
+unfolding raise enabled unmasked cause_word
+raise-other n h c =
+    rw (
+      ne_eqb n low_preset (λ e. h LowPreset (sym e)),
+      ne_eqb n high_preset (λ e. h HighPreset (sym e)),
+      ne_eqb n underflow (λ e. h Underflow (sym e)),
+      ne_eqb n overflow (λ e. h Overflow (sym e)),
+      and-false (bit c.flags FE && bit c.flags UIE),
+    )
+
 -- a number that is no cause's shows none
 pub started-none : (n flags : ℕ) → ((cause : Cause) → number cause ≡ n → ⊥) → started n flags ≡ quiet flags
 unfolding started

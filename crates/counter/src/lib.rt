@@ -10,6 +10,7 @@ pub mod inputs;
 pub mod legality;
 pub mod loading;
 pub mod mode;
+pub mod numbers;
 pub mod outputs;
 pub mod reading;
 pub mod rules;

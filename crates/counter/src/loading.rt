@@ -33,7 +33,7 @@ impl Counter {
     }
 
     /// Active becomes staged, loaded 1.
-    fn accept(&mut self)
+    pub fn accept(&mut self)
         ensures { self.new ≡ accepted self.old }
     {
         self.active = self.staged;

@@ -40,7 +40,7 @@ impl Desk {
 impl Settings {
     /// Every setting is 0.
     #[tactic(auto, unfolding(crate::specs::WellFormed::is_none))]
-    fn is_none(&self) -> bool
+    pub(crate) fn is_none(&self) -> bool
         ensures { result ≡ is_none self.now }
     {
         *self == Settings::default()
