@@ -3,7 +3,7 @@ ghost use Rattle.std.specs.Prelude.{◌≡◌, pos};
 ghost use Rattle.accumulator.specs.Causes.{cause_number};
 ghost use Rattle.counter.specs.Parts.{mode_of, up_only};
 ghost use Rattle.counter.specs.Sample.{up_flags, down_flags, unmoved, counted_up, counted_down};
-ghost use Rattle.counter.specs.Sample.{counted_by, resets, may_count, allowed_count, sampled, sample};
+ghost use Rattle.counter.specs.Sample.{counted_by, resets, may_count, allowed_count, count, sampled, sample};
 ghost use Rattle.counter.specs.Sample.{count_of, sampled_as, sampled_of};
 ghost use Rattle.counter.specs.Idle.{idle};
 
@@ -128,9 +128,9 @@ impl Counter {
         self.has(Flag::Loaded) & (self.has(Flag::Ce) & !inputs::inhibited(self.active.mode(), new))
     }
 
-    /// The count that a sample makes which does not reset.
+    /// The count of a sample that does not reset.
     #[inline(always)]
-    fn count(&self, new: u8) -> Option<Count>
+    fn allowed_count(&self, new: u8) -> Option<Count>
         ensures { count_of result ≡ allowed_count new self.now }
     {
         if self.may_count(new) {
@@ -138,6 +138,16 @@ impl Counter {
         } else {
             None
         }
+    }
+
+    /// The count that the sample makes; a reset makes none. Whether it resets is asked once, by the caller.
+    #[tactic(auto, unfolding(crate::specs::Sample::count))]
+    #[inline(always)]
+    fn count(&self, new: u8, reset: bool) -> Option<Count>
+        requires { reset ≡ resets new self.now }
+        ensures { count_of result ≡ count new self.now }
+    {
+        if reset { None } else { self.allowed_count(new) }
     }
 
     /// Whether it is told at once that nothing comes of the sample but its levels: no input
@@ -151,15 +161,17 @@ impl Counter {
     }
 
     /// What the sample makes of ACC and the flags.
-    #[tactic(auto, unfolding(crate::specs::Sample::sampled, crate::specs::Sample::count))]
+    #[tactic(auto, unfolding(crate::specs::Sample::sampled))]
     #[inline(always)]
     pub fn sampled(&self, new: u8) -> Sampled
         ensures { sampled_of result ≡ sampled new self.now }
     {
-        if self.resets(new) {
+        let resets = self.resets(new);
+        let way = self.count(new, resets);
+        if resets {
             reset(self.flags)
         } else {
-            self.counted_by(self.count(new))
+            self.counted_by(way)
         }
     }
 
