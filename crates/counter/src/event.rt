@@ -30,6 +30,7 @@ pub enum Event {
 
 /// A staged write, kind 2.
 #[tactic(auto, unfolding(crate::specs::Events::legal, crate::specs::Events::legal_staged))]
+#[inline(always)]
 fn staged(sub: u8, value: i32) -> Option<Event>
     ensures { Parsed 2 sub value result }
 {
@@ -46,6 +47,7 @@ fn staged(sub: u8, value: i32) -> Option<Event>
 
 /// A write of the programming device, kind 3.
 #[tactic(auto, unfolding(crate::specs::Events::legal, crate::specs::Events::legal_device))]
+#[inline(always)]
 fn device(sub: u8, value: i32) -> Option<Event>
     ensures { Parsed 3 sub value result }
 {
@@ -85,6 +87,7 @@ fn takes_zero(flag: Flag) -> bool
 
 /// A flag write, kind 4; sub is the flag's bit.
 #[tactic(auto, unfolding(crate::specs::Events::legal, crate::specs::Events::legal_flag))]
+#[inline(always)]
 fn flag_write(sub: u8, value: i32) -> Option<Event>
     ensures { Parsed 4 sub value result }
 {
@@ -99,7 +102,9 @@ fn flag_write(sub: u8, value: i32) -> Option<Event>
 impl Event {
     /// The event of this kind, sub and value, if it is legal. Where nothing else is listed, sub and
     /// value must be 0.
+    // Inlined, so that no event is put together for a call that takes it apart again.
     #[tactic(auto, unfolding(crate::specs::Events::legal))]
+    #[inline(always)]
     pub fn parse(kind: u8, sub: u8, value: i32) -> Option<Event>
         ensures { Parsed kind sub value result }
     {

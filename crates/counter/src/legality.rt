@@ -11,7 +11,9 @@ fn is_levels(v: i32) -> bool
 }
 
 /// Whether the event is legal.
-// By its numbers, as the events of `step-good` and `legal-stamp` are.
+// By its numbers, as the events of `step-good` and `legal-stamp` are. Apart, so that a loop over events has
+// the test of a sample alone within it (`legal_event`).
+#[inline(never)]
 pub fn legal(kind: u8, sub: u8, v: i32) -> bool
     ensures { result ≡ legal kind sub v }
 {
