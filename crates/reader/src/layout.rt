@@ -31,15 +31,15 @@ pub const SIZE: usize = 116;
 
 /// The number in the four bytes from byte at on.
 // As `header::number`, with the bound that places in a reader want.
-pub fn number(bytes: &[u8; SIZE], at: usize) -> usize
-    requires { at + 4 ≤ reader_size }
+pub fn number(bytes: &[u8], at: usize) -> usize
+    requires { at + 4 ≤ length bytes.now }
     ensures { (result ≡ number_at bytes.now at 4) × (result < 2 ^ 32) }
 {
     u32::read(bytes, at) as usize
 }
 
-pub fn write_number(bytes: &mut [u8; SIZE], at: usize, v: usize)
-    requires { (at + 4 ≤ reader_size) × (v < 2 ^ 32) }
+pub fn write_number(bytes: &mut [u8], at: usize, v: usize)
+    requires { (at + 4 ≤ length bytes.old) × (v < 2 ^ 32) }
     ensures { bytes.new ≡ put bytes.old at (to_bytes 4 v) }
 {
     (v as u32).write(bytes, at);
