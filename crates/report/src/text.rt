@@ -85,6 +85,13 @@ impl Text {
         self.push(&digits[..k]);
     }
 
+    /// The text.
+    pub fn as_bytes(&self) -> &[u8]
+        ensures { result.now ≡ self.now }
+    {
+        &self.bytes[..self.length]
+    }
+
     /// Writes the text at the front of a buffer that has room for it; answers its length.
     pub fn copy_to(&self, buffer: &mut [u8]) -> usize
         requires { 160 ≤ length buffer.old }
