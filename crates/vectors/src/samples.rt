@@ -3,7 +3,6 @@ use super::loads::settings;
 use super::words::verdict;
 use counter::flag::Flag;
 use counter::state::Counter;
-use std::io;
 
 // Inputs 1 to 3, as levels.
 const B: u8 = 2;
@@ -54,31 +53,31 @@ fn in_mode(mode: i16, ce: bool, new: u8, expected: i32) -> Fall {
     }
 }
 
-fn print_position(rt: &impl Print, name: &str, on: bool) -> io::Result<()> {
+fn print_position(rt: &impl Print, name: &str, on: bool) {
     let position = if on { "on" } else { "off" };
-    print!(rt; " {name} {position},")
+    let _ = print!(rt; " {name} {position},");
 }
 
-fn print_mode(rt: &impl Print, mode: i16, fall: Fall) -> io::Result<()> {
-    print!(rt; " mode {mode} ACC {} DIR {}", fall.acc, u8::from(fall.dir))
+fn print_mode(rt: &impl Print, mode: i16, fall: Fall) {
+    let _ = print!(rt; " mode {mode} ACC {} DIR {}", fall.acc, u8::from(fall.dir));
 }
 
 // One row: the inputs after the fall, CE, and ACC in mode 6 and in mode 7.
-fn falls(rt: &impl Print, new: u8, ce: bool, six: i32, seven: i32) -> io::Result<()> {
-    print!(rt; "A falls,")?;
-    print_position(rt, "B", new & B == B)?;
-    print_position(rt, "Z", new & Z == Z)?;
-    print_position(rt, "hold", new & HOLD == HOLD)?;
+fn falls(rt: &impl Print, new: u8, ce: bool, six: i32, seven: i32) {
+    let _ = print!(rt; "A falls,");
+    print_position(rt, "B", new & B == B);
+    print_position(rt, "Z", new & Z == Z);
+    print_position(rt, "hold", new & HOLD == HOLD);
     let first = in_mode(6, ce, new, six);
     let second = in_mode(7, ce, new, seven);
-    print!(rt; " CE {}:", u8::from(ce))?;
-    print_mode(rt, 6, first)?;
-    print!(rt; ",")?;
-    print_mode(rt, 7, second)?;
-    println!(rt; " {}", verdict(first.ok && second.ok))
+    let _ = print!(rt; " CE {}:", u8::from(ce));
+    print_mode(rt, 6, first);
+    let _ = print!(rt; ",");
+    print_mode(rt, 7, second);
+    let _ = println!(rt; " {}", verdict(first.ok && second.ok));
 }
 
-pub fn run(rt: &impl Print) -> io::Result<()> {
+pub fn run(rt: &impl Print) {
     // The inputs after the fall; ACC in mode 6 and in mode 7, with CE on and with CE off.
     let rows = [
         (0, [4, 4], [5, 5]),
@@ -91,8 +90,7 @@ pub fn run(rt: &impl Print) -> io::Result<()> {
         (B | Z | HOLD, [5, 5], [5, 5]),
     ];
     for (new, on, off) in rows {
-        falls(rt, new, true, on[0], on[1])?;
-        falls(rt, new, false, off[0], off[1])?;
+        falls(rt, new, true, on[0], on[1]);
+        falls(rt, new, false, off[0], off[1]);
     }
-    Ok(())
 }
