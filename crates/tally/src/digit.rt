@@ -1,5 +1,5 @@
 //! One digit as a machine: an event's digit is added, a snapshot is the digit.
-ghost use Rattle.std.specs.Prelude.{pos, refl};
+ghost use Rattle.std.specs.Prelude.{◌≡◌, ◌&&◌, eqb, leb, pos, refl};
 ghost use Rattle.std.proofs.Common.{rules};
 ghost use Rattle.tally.specs.Tally.{tally};
 ghost use Rattle.tally.specs.Laws.{laws};
@@ -70,4 +70,12 @@ impl Machine for Digit {
     ghost long = { λ _. refl };
 
     ghost formed_loads = { λ _ _. tt };
+}
+
+/// Whether mending stops before event `place`: the run's end is passed, and the old snapshot is the
+/// new state's. The loop asks the same of any machine (`table`).
+pub fn settled(end: usize, place: usize, old: u8, state: u8) -> bool
+    ensures { result ≡ (leb end place && eqb old state) }
+{
+    (end <= place) & (old == state)
 }
